@@ -1,0 +1,64 @@
+-- What a call answers and leaves, and the paper's numbers for it. Document 01, "Refusals and their order".
+use Prim.Native.Nat.{ℕ}
+use mathlib.Core.Bool.{Bool, cond}
+use mathlib.Core.List.{List}
+use lib.IntN.{ℤ, pos}
+use Rattle.model.specs.declared.Kind.the-variants.{Traced, Untraced}
+use Rattle.model.specs.declared.Refusal.{Refusal}
+use Rattle.model.specs.declared.Refusal.the-variants as Why
+use Rattle.model.specs.declared.Answer.{Answer}
+use Rattle.model.specs.declared.Answer.the-variants as Says
+use Rattle.model.specs.declared.Answered.{Answered}
+use Rattle.model.specs.Words.{State, lent}
+
+-- a call's answer, and what it leaves of what it was lent
+pub record Outcome : Type 0 where
+  pub answer : Answer
+  pub left : State
+
+abbrev pub says : Answer → State → Outcome
+says a s = record { answer = a; left = s }
+
+-- the outcome of a by-value call, from what it returned and the words that it left: a promise is one equation of this
+abbrev pub outcome : Answered → List ℕ → List ℕ → Outcome
+outcome a H R = says (a .answer) (lent H R (a .«record»))
+
+-- refused where the test holds, and nothing changes; otherwise what follows
+unfoldable pub refuse : Bool → Refusal → State → Outcome → Outcome
+refuse b k s next = cond b (says (Says.Refused k) s) next
+
+-- the number of a refusal
+abbrev pub number : Refusal → ℕ
+number Why.Shape = 1
+number Why.Root = 2
+number Why.Count = 3
+number Why.Range = 4
+number Why.Object = 5
+number Why.Kind = 6
+number Why.Field = 7
+number Why.Damaged = 8
+number Why.Room = 9
+
+-- an answer in numbers: that of its refusal, 0 for none; for inspect what the root holds, 0 null, 1 an integer, 2 a traced
+-- object, 3 an untraced one; and its value: L, an integer, a field count, a raw word, or 1 for sound and yes
+pub record Told : Type 0 where
+  pub refusal : ℕ
+  pub holds : ℕ
+  pub value : ℤ
+
+abbrev pub tells : ℕ → ℕ → ℤ → Told
+tells k h v = record { refusal = k; holds = h; value = v }
+
+abbrev pub told : Answer → Told
+told Says.Done = tells 0 0 (pos 0)
+told (Says.Live n) = tells 0 0 (pos n)
+told Says.Sound = tells 0 0 (pos 1)
+told Says.Unsound = tells 0 0 (pos 0)
+told Says.Yes = tells 0 0 (pos 1)
+told Says.No = tells 0 0 (pos 0)
+told Says.Null = tells 0 0 (pos 0)
+told (Says.Integer v) = tells 0 1 v
+told (Says.Object Traced n) = tells 0 2 (pos n)
+told (Says.Object Untraced n) = tells 0 3 (pos n)
+told (Says.Number w) = tells 0 0 (pos w)
+told (Says.Refused k) = tells (number k) 0 (pos 0)

@@ -1,0 +1,91 @@
+-- Demand 2: a collection keeps exactly one copy of each reachable object and of nothing else; fields and sharing agree; the
+-- copies are packed in the order in which they are met; the answer is the words of the reachable objects.
+use Prim.Native.Nat.{ℕ, _+_, _-_, _≤_, _<_}
+use mathlib.Core.Path.{_≡_}
+use mathlib.Core.Logic.{_⊎_}
+use mathlib.Core.Bool.{true, false}
+use mathlib.Core.List.{List, [], _∷_, _++_, map, List·Memᴰ}
+use lib.ListN.{length, getD, take}
+use Rattle.model.specs.declared.Kind.the-variants.{Traced, Untraced}
+use Rattle.model.specs.declared.Answer.the-variants as Says
+use Rattle.model.specs.declared.Call.the-variants as Ask
+use Rattle.model.specs.Words.{State, at, other, firstWord, otherFirst, free}
+use Rattle.model.specs.Values.{isAddress}
+use Rattle.model.specs.Headers.{Layout}
+use Rattle.model.specs.Objects.{address, index, kind, fieldCount, size, fieldIndex}
+use Rattle.model.specs.Discovery.{visits, packed, wordsBefore}
+use Rattle.model.specs.Soundness.{headers, sound}
+use Rattle.model.specs.Collection.{cells, wordLeads, cellLeads, order}
+use Rattle.model.specs.Changes.{rootWord}
+use Rattle.model.specs.Sessions.{Machine}
+
+-- no number twice: two places that hold the same are one
+abbrev pub EachOnce : List ℕ → Type 0
+EachOnce o = (k l : ℕ) → k < length o → l < length o → getD o k 0 ≡ getD o l 0 → k ≡ l
+
+module _ (Y : Layout) where
+  -- an object is reachable: a root holds its address, or a field of a reachable traced object does
+  pub data Reach (s : State) : ℕ → Type 0 where
+    fromRoot : (r : ℕ) → r < length (s .roots) → isAddress (rootWord s r) ≡ true → Reach s (index Y (rootWord s r))
+    fromField : (i f : ℕ) → Reach s i → kind Y (s .heap) i ≡ Traced → f < fieldCount Y (s .heap) i
+        → isAddress (at (s .heap) (fieldIndex i f)) ≡ true → Reach s (index Y (at (s .heap) (fieldIndex i f)))
+
+  -- the sum of n + 1
+  abbrev pub sizes : List ℕ → List ℕ → ℕ
+  sizes H [] = 0
+  sizes H (i ∷ o) = size Y H i + sizes H o
+
+  -- a list of objects is that of the first meetings, along the roots by rising number and then along the fields of the objects
+  -- of that very list
+  abbrev pub FirstMeetings : State → List ℕ → Type 0
+  FirstMeetings s o = o ≡ visits [] (map (wordLeads Y) (s .roots) ++ map (cellLeads Y) (packed (cells Y (s .heap)) o))
+
+  -- the index of the copy of the object at i
+  abbrev pub copyIndex : State → ℕ → ℕ
+  copyIndex s i = otherFirst s + wordsBefore (cells Y (s .heap)) (order Y s) i
+
+  -- a word and what it became: integers and null stay, an object's address is its copy's
+  pub record Became (s : State) (w w′ : ℕ) : Type 0 where
+    pub stays : isAddress w ≡ false → w′ ≡ w
+    pub moves : isAddress w ≡ true → w′ ≡ address Y (copyIndex s (index Y w))
+
+  -- a state, and what its collection leaves with the answer L
+  pub record Collects (s s′ : State) (L : ℕ) : Type 0 where
+    -- the order lists exactly the reachable objects, each once
+    pub listed : (i : ℕ) → List·Memᴰ i (order Y s) → Reach s i
+    pub reached : (i : ℕ) → Reach s i → List·Memᴰ i (order Y s)
+    pub once : EachOnce (order Y s)
+    -- it is the first meetings, and no other list of reachable objects is
+    pub met : FirstMeetings s (order Y s)
+    pub only : (o : List ℕ) → FirstMeetings s o → ((i : ℕ) → List·Memᴰ i o → Reach s i) → o ≡ order Y s
+    -- the objects of the new half are exactly their copies, packed in that order
+    pub copies : headers Y s′ ≡ map (copyIndex s) (order Y s)
+    pub packs : (k : ℕ) → k < length (order Y s)
+        → copyIndex s (getD (order Y s) k 0) ≡ otherFirst s + sizes (s .heap) (take k (order Y s))
+    -- headers, fields and roots agree
+    pub header : (i : ℕ) → Reach s i → at (s′ .heap) (copyIndex s i) ≡ at (s .heap) i
+    pub rawField : (i f : ℕ) → Reach s i → kind Y (s .heap) i ≡ Untraced → f < fieldCount Y (s .heap) i
+        → at (s′ .heap) (fieldIndex (copyIndex s i) f) ≡ at (s .heap) (fieldIndex i f)
+    pub valueField : (i f : ℕ) → Reach s i → kind Y (s .heap) i ≡ Traced → f < fieldCount Y (s .heap) i
+        → Became s (at (s .heap) (fieldIndex i f)) (at (s′ .heap) (fieldIndex (copyIndex s i) f))
+    pub rootCount : length (s′ .roots) ≡ length (s .roots)
+    pub root : (r : ℕ) → r < length (s .roots) → Became s (rootWord s r) (rootWord s′ r)
+    -- and so does sharing: two copies are one only of one object
+    pub shared : (i j : ℕ) → Reach s i → Reach s j → copyIndex s i ≡ copyIndex s j → i ≡ j
+    -- the same length, the other half, and all words but the copies 0
+    pub sameLength : length (s′ .heap) ≡ length (s .heap)
+    pub otherHalf : s′ .«record» .half ≡ other (s .«record» .half)
+    pub cleared : (i : ℕ) → (i < firstWord s′) ⊎ (free s′ ≤ i) → at (s′ .heap) i ≡ 0
+    -- L is the sum of n + 1 over the reachable objects, and the free index less the half's first word
+    pub counts : L ≡ sizes (s .heap) (order Y s)
+    pub used : L ≡ free s′ - firstWord s′
+    pub first : firstWord s′ ≡ otherFirst s
+    pub starts : firstWord s′ ≤ free s′
+    -- and it can be collected again
+    pub again : sound Y s′ ≡ true
+
+  -- of the call: its answer is L, and it leaves that
+  pub record Demand2 (M : Machine) (s : State) : Type 0 where
+    pub L : ℕ
+    pub answers : M .step Ask.Collect s .answer ≡ Says.Live L
+    pub leaves : Collects s (M .step Ask.Collect s .left) L

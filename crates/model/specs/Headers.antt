@@ -1,0 +1,37 @@
+-- How an object's header is written and read. Document 01, "Values and objects".
+-- A layout gives the rules; all that follows is over any layout, and the library's is `tuple`.
+--
+--     bit 31      bits 30 to 1      bit 0
+--     untraced    n, the fields     0 outside a collection; 1: bits 31 to 1 are the new address
+use Prim.Native.Nat.{ℕ, _+_, _*_, _/_, _%_}
+use mathlib.Core.Bool.{Bool, cond}
+use lib.Dec.{ltb, eqb}
+use Rattle.model.specs.declared.Kind.{Kind}
+use Rattle.model.specs.declared.Kind.the-variants.{Traced, Untraced}
+
+pub record Layout : Type 0 where
+  -- the header of an object of a kind with n fields
+  pub header : Kind → ℕ → ℕ
+  -- a word that is a header and not forwarded
+  pub isHeader : ℕ → Bool
+  -- of such a header: its kind and its field count
+  pub kindOf : ℕ → Kind
+  pub countOf : ℕ → ℕ
+  -- an object's address is that of the word so many words past its header
+  pub ahead : ℕ
+  -- what a forwarded header holds, of the new address
+  pub mark : ℕ → ℕ
+
+abbrev pub bit31 : Kind → ℕ
+bit31 Traced = 0
+bit31 Untraced = 2_147_483_648
+
+unfoldable pub tuple : Layout
+tuple = record {
+  header = λ k n. bit31 k + 2 * n;
+  isHeader = λ h. eqb (h % 2) 0;
+  kindOf = λ h. cond (ltb h 2_147_483_648) Traced Untraced;
+  countOf = λ h. h / 2 % 1_073_741_824;
+  ahead = 0;
+  mark = λ a. a + 1;
+}

@@ -1,0 +1,45 @@
+-- Sessions: one call after another. Document 01, "The calls".
+use mathlib.Core.List.{List, [], _∷_}
+use Rattle.model.specs.declared.Call.{Call}
+use Rattle.model.specs.declared.Call.the-variants as Ask
+use Rattle.model.specs.declared.Answer.{Answer}
+use Rattle.model.specs.Words.{State}
+use Rattle.model.specs.Headers.{Layout}
+use Rattle.model.specs.Answers.{Outcome}
+use Rattle.model.specs.Calls as Calls
+use Rattle.model.specs.Calls.{fresh}
+
+-- one session call
+unfoldable pub step : Layout → Call → State → Outcome
+step Y Ask.Collect s = Calls.collect Y s
+step Y Ask.Check s = Calls.check Y s
+step Y (Ask.Allocate k n r) s = Calls.allocate Y k n r s
+step Y (Ask.SetInteger r v) s = Calls.setInteger r v s
+step Y (Ask.SetNull r) s = Calls.setNull r s
+step Y (Ask.Copy from to) s = Calls.copy from to s
+step Y (Ask.Load r f to) s = Calls.load Y r f to s
+step Y (Ask.Store r f from) s = Calls.store Y r f from s
+step Y (Ask.RawRead r f) s = Calls.rawRead Y r f s
+step Y (Ask.RawWrite r f x) s = Calls.rawWrite Y r f x s
+step Y (Ask.Same r q) s = Calls.same r q s
+step Y (Ask.Inspect r) s = Calls.inspect Y r s
+
+-- what the demands are about: a way to start a heap and to answer a call. Each demand is stated of any machine, so that it
+-- can be held against a wrong one too, and proved of this library's, `machine`.
+pub record Machine : Type 0 where
+  pub fresh : State → Outcome
+  pub step : Call → State → Outcome
+
+abbrev pub machine : Layout → Machine
+machine Y = record { fresh = fresh; step = step Y }
+
+module _ (M : Machine) where
+  -- the answers to a list of calls
+  unfoldable pub answers : List Call → State → List Answer
+  answers [] s = []
+  answers (c ∷ cs) s = let o = M .step c s in o .answer ∷ answers cs (o .left)
+
+  -- and what they leave
+  unfoldable pub after : List Call → State → State
+  after [] s = s
+  after (c ∷ cs) s = after cs (M .step c s .left)

@@ -1,0 +1,55 @@
+-- What a call is lent, and the words in it. Document 01, "Words, addresses and halves".
+-- A word is a number below 2 ^ 32. The definitions are of all numbers; nothing depends on that bound.
+--
+--     word     0     1 .. S     S + 1 .. 2S
+--           reserved half A     half B
+use Prim.Native.Nat.{ℕ, _+_, _*_, _-_, _/_}
+use mathlib.Core.List.{List}
+use lib.ListN.{length, getD}
+use Rattle.model.specs.declared.Half.{Half}
+use Rattle.model.specs.declared.Half.the-variants.{A, B}
+use Rattle.model.specs.declared.Record.{Record}
+
+-- the heap's words, the roots' words and the heap's record: what a call is lent, and what it leaves
+pub record State : Type 0 where
+  pub heap : List ℕ
+  pub roots : List ℕ
+  pub «record» : Record
+
+abbrev pub lent : List ℕ → List ℕ → Record → State
+lent H R q = record { heap = H; roots = R; «record» = q }
+
+-- a word of a run. Past the end it reads 0, which no answer shows: each call tests an index before it looks.
+abbrev pub at : List ℕ → ℕ → ℕ
+at H i = getD H i 0
+
+-- the two units: the address of a word is 4 times its index
+abbrev pub addressOf : ℕ → ℕ
+addressOf i = 4 * i
+
+abbrev pub indexOf : ℕ → ℕ
+indexOf a = a / 4
+
+-- S
+abbrev pub halfWords : List ℕ → ℕ
+halfWords H = (length H - 1) / 2
+
+abbrev pub other : Half → Half
+other A = B
+other B = A
+
+-- the first word of a half of S words
+abbrev pub firstOf : ℕ → Half → ℕ
+firstOf S A = 1
+firstOf S B = S + 1
+
+-- the first word of the current half, and of the other
+abbrev pub firstWord : State → ℕ
+firstWord s = firstOf (halfWords (s .heap)) (s .«record» .half)
+
+abbrev pub otherFirst : State → ℕ
+otherFirst s = firstOf (halfWords (s .heap)) (other (s .«record» .half))
+
+-- the index of the next free word
+abbrev pub free : State → ℕ
+free s = s .«record» .free .0
