@@ -3,11 +3,13 @@
 --
 --     bit 31      bits 30 to 1      bit 0
 --     untraced    n, the fields     0 outside a collection; 1: bits 31 to 1 are the new address
-use Prim.Native.Nat.{ℕ, _+_, _*_, _/_, _%_}
-use mathlib.Core.Bool.{Bool, cond}
+use Prim.Native.Nat.{ℕ, _+_, _*_, _/_, _%_, _≤_}
+use mathlib.Core.Path.{_≡_}
+use mathlib.Core.Bool.{Bool, true, cond}
 use lib.Dec.{ltb, eqb}
 use Rattle.model.specs.declared.Kind.{Kind}
 use Rattle.model.specs.declared.Kind.the-variants.{Traced, Untraced}
+use Rattle.model.specs.Limits.{maxFields}
 
 pub record Layout : Type 0 where
   -- the header of an object of a kind with n fields
@@ -21,6 +23,12 @@ pub record Layout : Type 0 where
   pub ahead : ℕ
   -- what a forwarded header holds, of the new address
   pub mark : ℕ → ℕ
+
+-- what is written is a header and reads back
+pub record Lawful (Y : Layout) : Type 0 where
+  pub clear : (k : Kind) (n : ℕ) → n ≤ maxFields → Y .isHeader (Y .header k n) ≡ true
+  pub counts : (k : Kind) (n : ℕ) → n ≤ maxFields → Y .countOf (Y .header k n) ≡ n
+  pub kinds : (k : Kind) (n : ℕ) → n ≤ maxFields → Y .kindOf (Y .header k n) ≡ k
 
 abbrev pub bit31 : Kind → ℕ
 bit31 Traced = 0

@@ -1,0 +1,28 @@
+-- Headers of the tuple layout, written and read. Assumes nothing.
+use Prim.Native.Nat.{ℕ, _+_, _*_, _%_, _≤_}
+use native.Mathlib.Omega.{arith}
+use mathlib.Core.Path.{_≡_}
+use mathlib.Core.Bool.{true}
+use borrow.Author.Tests.{eq-eqb, lt-ltb, le-ltb}
+use Rattle.model.specs.declared.Kind.{Kind}
+use Rattle.model.specs.declared.Kind.the-variants.{Traced, Untraced}
+use Rattle.model.specs.Headers.{Lawful, tuple}
+use Rattle.model.specs.Limits.{maxFields}
+
+tuple-clear : (k : Kind) (n : ℕ) → n ≤ maxFields → tuple .isHeader (tuple .header k n) ≡ true
+unfolding tuple
+tuple-clear Traced n l = eq-eqb ((0 + 2 * n) % 2) 0 (omega arith)
+tuple-clear Untraced n l = eq-eqb ((2147483648 + 2 * n) % 2) 0 (omega arith)
+
+tuple-counts : (k : Kind) (n : ℕ) → n ≤ maxFields → tuple .countOf (tuple .header k n) ≡ n
+unfolding tuple
+tuple-counts Traced n l = omega arith
+tuple-counts Untraced n l = omega arith
+
+tuple-kinds : (k : Kind) (n : ℕ) → n ≤ maxFields → tuple .kindOf (tuple .header k n) ≡ k
+unfolding tuple
+tuple-kinds Traced n l = rw (lt-ltb (0 + 2 * n) 2147483648 (omega arith))
+tuple-kinds Untraced n l = rw (le-ltb (2147483648 + 2 * n) 2147483648 (omega arith))
+
+pub tuple-lawful : Lawful tuple
+tuple-lawful = record { clear = tuple-clear; counts = tuple-counts; kinds = tuple-kinds }

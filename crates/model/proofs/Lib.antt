@@ -1,0 +1,15 @@
+pub mod Tests
+pub mod Members
+pub mod Lists
+pub mod Integers
+pub mod Headers
+pub mod Visits
+pub mod Packed
+pub mod Discovery
+pub mod Meetings
+pub mod Alike
+pub mod Shape
+pub mod Objects
+pub mod Tiling
+pub mod Retiling
+pub mod Soundness

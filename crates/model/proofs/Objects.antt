@@ -1,0 +1,38 @@
+-- Objects: their cells and fields, their kinds, and addresses to indexes and back. Assumes nothing.
+use Prim.Native.Nat.{ℕ, _+_, _≤_, _<_}
+use native.Mathlib.Omega.{arith}
+use mathlib.Core.Path.{_≡_, refl}
+use mathlib.Core.Bool.{true, false}
+use mathlib.Core.List.{List}
+use lib.ListN.{length, getD, drop, length-take, length-drop, length-map}
+use lib.Seq.{getD-take, getD-drop}
+use Rattle.model.specs.declared.Kind.{Kind}
+use Rattle.model.specs.declared.Kind.the-variants.{Traced, Untraced}
+use Rattle.model.specs.Collection.{fieldCell, cells}
+use Rattle.model.specs.Headers.{Layout}
+use Rattle.model.specs.Objects.{isTraced, address, index, kind, fieldCount, size, fieldWords}
+use Rattle.model.specs.Words.{at}
+use Rattle.model.proofs.Tests.{never}
+
+pub kind-traced : (k : Kind) → isTraced k ≡ true → k ≡ Traced
+kind-traced Traced h = refl
+kind-traced Untraced h = never h refl
+
+pub kind-untraced : (k : Kind) → isTraced k ≡ false → k ≡ Untraced
+kind-untraced Traced h = never refl h
+kind-untraced Untraced h = refl
+
+module _ (Y : Layout) where
+  pub index-address : (i : ℕ) → index Y (address Y i) ≡ i
+  index-address i = omega arith
+
+  -- the words of an object that lies within the heap
+  pub cells-length : (H : List ℕ) (i : ℕ) → i + size Y H i ≤ length H → length (cells Y H i) ≡ size Y H i
+  cells-length H i l =
+      rw (length-map (fieldWords Y H i) (fieldCell (kind Y H i)), length-take, length-drop) (omega arith)
+
+  pub field-at : (H : List ℕ) (i f : ℕ) → f < fieldCount Y H i → getD (fieldWords Y H i) f 0 ≡ at H (i + 1 + f)
+  field-at H i f l = rw (getD-take (fieldCount Y H i) (drop (i + 1) H) f 0 l, getD-drop)
+
+  pub fields-length : (H : List ℕ) (i : ℕ) → i + size Y H i ≤ length H → length (fieldWords Y H i) ≡ fieldCount Y H i
+  fields-length H i l = rw (length-take, length-drop) (omega arith)

@@ -1,0 +1,76 @@
+-- SHAPE by its parts, and the halves of a heap that has its shape. Assumes nothing.
+use Prim.Native.Nat.{ℕ, _+_, _*_, _%_, _≤_, _<_}
+use native.Mathlib.Omega.{arith}
+use mathlib.Core.Path.{_≡_}
+use mathlib.Core.Logic.{_⊎_, inl, inr}
+use mathlib.Core.Bool.{false}
+use lib.Dec.{ltb, eqb}
+use lib.ListN.{length}
+use borrow.Author.Tests.{ltb-false, eqb-false, ne-eqb, le-ltb}
+use Rattle.model.specs.declared.Half.{Half}
+use Rattle.model.specs.declared.Half.the-variants.{A, B}
+use Rattle.model.specs.Limits.{maxHalf, maxWords, maxRoots}
+use Rattle.model.specs.Shape.{badShapeOf, badShape}
+use Rattle.model.specs.Words.{State, halfWords, other, firstOf, firstWord, otherFirst, free}
+use Rattle.model.proofs.Tests.{or-none}
+
+pub record Shaped (s : State) : Type 0 where
+  pub odd : length (s .heap) ≡ 2 * halfWords (s .heap) + 1
+  pub pos : 1 ≤ halfWords (s .heap)
+  pub small : halfWords (s .heap) ≤ maxHalf
+  pub few : length (s .roots) ≤ maxRoots
+  pub low : firstWord s ≤ free s
+  pub high : free s ≤ firstWord s + halfWords (s .heap)
+
+pub shaped : (s : State) → badShape s ≡ false → Shaped s
+unfolding badShapeOf
+shaped s h =
+    let a = or-none _ (ltb (firstWord s + halfWords (s .heap)) (free s)) h in
+    let b = or-none _ (ltb (free s) (firstWord s)) (a .0) in
+    let c = or-none _ (ltb maxRoots (length (s .roots))) (b .0) in
+    let d = or-none _ (ltb maxWords (length (s .heap))) (c .0) in
+    let e = or-none (eqb (length (s .heap) % 2) 0) (ltb (length (s .heap)) 3) (d .0) in
+    let f : length (s .heap) % 2 ≡ 0 → ⊥ = eqb-false _ _ (e .0) in
+    let g : 3 ≤ length (s .heap) = ltb-false _ _ (e .1) in
+    let i : length (s .heap) ≤ maxWords = ltb-false _ _ (d .1) in
+    record {
+      odd = omega arith;
+      pos = omega arith;
+      small = omega arith;
+      few = ltb-false _ _ (c .1);
+      low = ltb-false _ _ (b .1);
+      high = ltb-false _ _ (a .1);
+    }
+
+-- and back
+pub unshaped : (s : State) → Shaped s → badShape s ≡ false
+unfolding badShapeOf
+unshaped s h =
+    let l = h .odd in
+    rw (
+      ne-eqb (length (s .heap) % 2) 0 (λ z. omega (arith, h .odd)),
+      le-ltb (length (s .heap)) 3 (omega (arith, h .odd, h .pos)),
+      le-ltb maxWords (length (s .heap)) (omega (arith, h .odd, h .small)),
+      le-ltb maxRoots (length (s .roots)) (h .few),
+      le-ltb (free s) (firstWord s) (h .low),
+      le-ltb (firstWord s + halfWords (s .heap)) (free s) (h .high),
+    )
+
+-- the first word of either half, and where it ends
+pub half-in : (s : State) → Shaped s → (f : Half) → (1 ≤ firstOf (halfWords (s .heap)) f) × (firstOf (halfWords (s .heap)) f + halfWords (s .heap) ≤ length (s .heap))
+half-in s h A = omega (arith, h .odd)
+half-in s h B = omega (arith, h .odd)
+
+pub first-in : (s : State) → Shaped s → (1 ≤ firstWord s) × (firstWord s + halfWords (s .heap) ≤ length (s .heap))
+first-in s h = half-in s h (s .«record» .half)
+
+pub other-in : (s : State) → Shaped s → (1 ≤ otherFirst s) × (otherFirst s + halfWords (s .heap) ≤ length (s .heap))
+other-in s h = half-in s h (other (s .«record» .half))
+
+-- a word of the other half is none of the current one
+pub halves-apart : (s : State) (i : ℕ) → otherFirst s ≤ i → i < otherFirst s + halfWords (s .heap) → (i < firstWord s) ⊎ (firstWord s + halfWords (s .heap) ≤ i)
+halves-apart s = go (s .«record» .half) (halfWords (s .heap))
+  where
+    go : (f : Half) (S i : ℕ) → firstOf S (other f) ≤ i → i < firstOf S (other f) + S → (i < firstOf S f) ⊎ (firstOf S f + S ≤ i)
+    go A S i l k = inr (omega arith)
+    go B S i l k = inl (omega arith)
