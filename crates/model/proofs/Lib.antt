@@ -13,3 +13,10 @@ pub mod Objects
 pub mod Tiling
 pub mod Retiling
 pub mod Soundness
+pub mod Halves
+pub mod Copies
+pub mod Values
+pub mod Order
+pub mod Collected
+pub mod CollectedSound
+pub mod Demand2

@@ -2,7 +2,7 @@
 use Prim.Native.Nat.{ℕ, _+_, _*_, _%_, _≤_, _<_}
 use native.Mathlib.Omega.{arith}
 use mathlib.Core.Path.{_≡_}
-use mathlib.Core.Logic.{_⊎_, inl, inr}
+use mathlib.Core.Logic.{_⊎_, inl, inr, ⊎-elim}
 use mathlib.Core.Bool.{false}
 use lib.Dec.{ltb, eqb}
 use lib.ListN.{length}
@@ -12,7 +12,7 @@ use Rattle.model.specs.declared.Half.the-variants.{A, B}
 use Rattle.model.specs.Limits.{maxHalf, maxWords, maxRoots}
 use Rattle.model.specs.Shape.{badShapeOf, badShape}
 use Rattle.model.specs.Words.{State, halfWords, other, firstOf, firstWord, otherFirst, free}
-use Rattle.model.proofs.Tests.{or-none}
+use Rattle.model.proofs.Tests.{decide, or-none}
 
 pub record Shaped (s : State) : Type 0 where
   pub odd : length (s .heap) ≡ 2 * halfWords (s .heap) + 1
@@ -74,3 +74,12 @@ halves-apart s = go (s .«record» .half) (halfWords (s .heap))
     go : (f : Half) (S i : ℕ) → firstOf S (other f) ≤ i → i < firstOf S (other f) + S → (i < firstOf S f) ⊎ (firstOf S f + S ≤ i)
     go A S i l k = inr (omega arith)
     go B S i l k = inl (omega arith)
+
+-- and every word but the reserved one lies in one of them
+pub halves-cover : (s : State) → Shaped s → (i : ℕ) → 1 ≤ i → i < length (s .heap)
+    → ((firstWord s ≤ i) × (i < firstWord s + halfWords (s .heap))) ⊎ ((otherFirst s ≤ i) × (i < otherFirst s + halfWords (s .heap)))
+halves-cover s h i p l = go (s .«record» .half)
+  where
+    go : (f : Half) → ((firstOf (halfWords (s .heap)) f ≤ i) × (i < firstOf (halfWords (s .heap)) f + halfWords (s .heap))) ⊎ ((firstOf (halfWords (s .heap)) (other f) ≤ i) × (i < firstOf (halfWords (s .heap)) (other f) + halfWords (s .heap)))
+    go A = ⊎-elim (λ (k : i < halfWords (s .heap) + 1). inl (omega arith)) (λ (k : halfWords (s .heap) + 1 ≤ i). inr (omega (arith, h .odd))) (decide i (halfWords (s .heap) + 1))
+    go B = ⊎-elim (λ (k : i < halfWords (s .heap) + 1). inr (omega arith)) (λ (k : halfWords (s .heap) + 1 ≤ i). inl (omega (arith, h .odd))) (decide i (halfWords (s .heap) + 1))

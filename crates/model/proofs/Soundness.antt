@@ -1,11 +1,11 @@
 -- What `sound` says, each part by name, and back. Assumes nothing.
 use Prim.Native.Nat.{ℕ, _+_, _-_, _≤_, _<_}
 use native.Mathlib.Omega.{arith}
-use mathlib.Core.Path.{_≡_, refl}
-use mathlib.Core.Logic.{⊎-elim}
+use mathlib.Core.Path.{_≡_, refl, ap, _∙_}
+use mathlib.Core.Logic.{_⊎_, inl, inr, ⊎-elim}
 use mathlib.Core.Bool.{true, false, not}
 use mathlib.Core.List.{List}
-use lib.ListN.{length, getD, drop, length-take, length-drop}
+use lib.ListN.{length, getD, drop, length-take, length-drop, List·getD-eq-default}
 use lib.Seq.{getD-take, getD-drop}
 use borrow.Author.Tests.{eqb-true, eq-eqb, not-true}
 use Rattle.model.specs.declared.Kind.the-variants.{Traced}
@@ -17,8 +17,8 @@ use Rattle.model.specs.Values.{isNull}
 use Rattle.model.specs.Words.{State, at, halfWords, firstWord, otherFirst, free}
 use Rattle.model.proofs.Members.{In, all-in, in-all}
 use Rattle.model.proofs.Objects.{kind-traced, field-at, fields-length}
-use Rattle.model.proofs.Shape.{Shaped, shaped, unshaped, first-in, other-in}
-use Rattle.model.proofs.Tests.{by-test, and-both, all-at, at-all}
+use Rattle.model.proofs.Shape.{Shaped, shaped, unshaped, first-in, other-in, halves-cover}
+use Rattle.model.proofs.Tests.{by-test, decide, and-both, all-at, at-all}
 use Rattle.model.proofs.Tiling.{headers-tile}
 
 -- the words of a span
@@ -108,3 +108,19 @@ module _ (Y : Layout) where
         at-all (isValue Y hs) (s .roots) 0 (h .roots),
         in-all (fieldsAreValues Y H hs) hs okField,
       )
+
+  -- all words outside the used part are 0
+  pub sound-zero : (s : State) → Sound s → (i : ℕ) → (i < firstWord s) ⊎ (free s ≤ i) → at (s .heap) i ≡ 0
+  sound-zero s h i c =
+      ⊎-elim
+      (λ (l : i < length (s .heap)).
+      ⊎-elim
+      (λ (p : 1 ≤ i).
+      ⊎-elim
+      (λ u. ⊎-elim (λ (b : i < firstWord s). let a = u .0 in absurd (omega arith)) (λ (b : free s ≤ i). h .rest i b (u .1)) c)
+      (λ u. h .idle i (u .0) (u .1))
+      (halves-cover s (h .shape) i p l))
+      (λ (z : i < 1). ap (at (s .heap)) (omega arith) ∙ h .null)
+      (⊎-elim (λ (z : i < 1). inr z) (λ (p : 1 ≤ i). inl p) (decide i 1)))
+      (λ (l : length (s .heap) ≤ i). List·getD-eq-default (s .heap) 0 l)
+      (decide i (length (s .heap)))

@@ -1,6 +1,6 @@
 -- Demand 2: a collection keeps exactly one copy of each reachable object and of nothing else; fields and sharing agree; the
 -- copies are packed in the order in which they are met; the answer is the words of the reachable objects.
-use Prim.Native.Nat.{ℕ, _+_, _-_, _≤_, _<_}
+use Prim.Native.Nat.{ℕ, _+_, _≤_, _<_}
 use mathlib.Core.Path.{_≡_}
 use mathlib.Core.Logic.{_⊎_}
 use mathlib.Core.Bool.{true, false}
@@ -78,9 +78,7 @@ module _ (Y : Layout) where
     pub cleared : (i : ℕ) → (i < firstWord s′) ⊎ (free s′ ≤ i) → at (s′ .heap) i ≡ 0
     -- L is the sum of n + 1 over the reachable objects, and the free index less the half's first word
     pub counts : L ≡ sizes (s .heap) (order Y s)
-    pub used : L ≡ free s′ - firstWord s′
-    pub first : firstWord s′ ≡ otherFirst s
-    pub starts : firstWord s′ ≤ free s′
+    pub used : free s′ ≡ firstWord s′ + L
     -- and it can be collected again
     pub again : sound Y s′ ≡ true
 

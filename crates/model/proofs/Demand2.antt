@@ -1,0 +1,87 @@
+-- Demand 2, of any layout and any sound state: proofs of its parts, and the theorem. Assumes nothing.
+use Prim.Native.Nat.{ℕ, _+_}
+use native.Mathlib.Omega.{arith}
+use mathlib.Core.Path.{_≡_, refl, sym, ap, _∙_, subst}
+use mathlib.Core.Bool.{true}
+use mathlib.Core.List.{List, [], _∷_, map, List·Memᴰ}
+use lib.ListN.{length, take, length-append}
+use Rattle.model.specs.declared.Answer.the-variants as Says
+use Rattle.model.specs.declared.Call.the-variants as Ask
+use Rattle.model.specs.Calls as Calls
+use Rattle.model.specs.Answers.{says, refuse}
+use Rattle.model.specs.Collection.{still, fieldCell, cells, wordLeads, cellLeads, orderAt, order, live, settle, collected}
+use Rattle.model.specs.Demand2 as D
+use Rattle.model.specs.Discovery.{packed}
+use Rattle.model.specs.Headers.{Layout}
+use Rattle.model.specs.Sessions.{step, machine, answers}
+use Rattle.model.specs.Soundness.{sound}
+use Rattle.model.specs.Words.{State, at, halfWords, otherFirst}
+use Rattle.model.proofs.Collected.{live-is, new-length, new-first, new-half, new-free, order-tile, new-header, new-field, new-root, new-roots}
+use Rattle.model.proofs.CollectedSound.{new-tiled, becomes, reach-order, order-reach, traced-field, new-sound}
+use Rattle.model.proofs.Copies.{wordsBefore-nth}
+use Rattle.model.proofs.Discovery.{Reach, root}
+use Rattle.model.proofs.Meetings.{met, only}
+use Rattle.model.proofs.Members.{In, in-tail, in-self, in-take, distinct-once, mem-in, in-mem}
+use Rattle.model.proofs.Objects.{cells-length}
+use Rattle.model.proofs.Order.{orderAt-distinct, order-fits, reach-reached}
+use Rattle.model.proofs.Packed.{wordsBefore-apart}
+use Rattle.model.proofs.Shape.{unshaped}
+use Rattle.model.proofs.Soundness.{Sound, sound-parts, sound-whole, sound-zero}
+
+module _ (Y : Layout) (s : State) (h : Sound Y s) where
+  abbrev s′ : State
+  s′ = collected Y s
+
+  sizes-packed : (o : List ℕ) → ((x : ℕ) → In x o → In x (order Y s)) → length (packed (cells Y (s .heap)) o) ≡ D.sizes Y (s .heap) o
+  unfolding packed
+  sizes-packed [] f = refl
+  sizes-packed (i ∷ o) f =
+      let ih = sizes-packed o (λ x m. f x (in-tail x i o m)) in
+      let c = cells-length Y (s .heap) i (order-tile Y s h i (f i (in-self i o)) .0) in
+      length-append (cells Y (s .heap) i) (packed (cells Y (s .heap)) o) ∙ omega arith
+
+  order-met : D.FirstMeetings Y s (order Y s)
+  unfolding orderAt
+  order-met = met (cells Y (s .heap)) (still 0) (cellLeads Y) (map (wordLeads Y) (s .roots)) refl (halfWords (s .heap)) (order-fits Y s h)
+
+  order-only : (o : List ℕ) → D.FirstMeetings Y s o → ((i : ℕ) → List·Memᴰ i o → D.Reach Y s i) → o ≡ order Y s
+  unfolding orderAt
+  order-only o e r =
+      only (cells Y (s .heap)) (still 0) (cellLeads Y) (map (wordLeads Y) (s .roots)) refl (halfWords (s .heap)) (order-fits Y s h) o e
+      (λ i m. reach-reached Y s h i (r i (in-mem i o m)))
+
+  pub collects : D.Collects Y s s′ (live Y s)
+  collects = record {
+    listed = λ i m. order-reach Y s h i (mem-in i (order Y s) m);
+    reached = λ i r. in-mem i (order Y s) (reach-order Y s h i r);
+    once = distinct-once (order Y s) (orderAt-distinct Y s h (halfWords (s .heap)));
+    met = order-met;
+    only = order-only;
+    copies = new-tiled Y s h .1;
+    packs = λ k l.
+        ap (λ x. otherFirst s + x)
+        (wordsBefore-nth Y (s .heap) (order Y s) k (orderAt-distinct Y s h (halfWords (s .heap))) l
+        ∙ sizes-packed (take k (order Y s)) (λ x m. in-take x k (order Y s) m));
+    header = λ i r. new-header Y s h i (reach-order Y s h i r);
+    rawField = λ i f r k l.
+        new-field Y s h i f (reach-order Y s h i r) l
+        ∙ ap (λ z. settle Y (s .heap) (order Y s) (otherFirst s) (fieldCell z (at (s .heap) (i + 1 + f)))) k;
+    valueField = λ i f r k l. rw (traced-field Y s h i f (reach-order Y s h i r) k l) (becomes Y s h (at (s .heap) (i + 1 + f)));
+    rootCount = new-roots Y s h;
+    root = λ r l. rw (new-root Y s h r l) (becomes Y s h (at (s .roots) r));
+    shared = λ i j a b e.
+        wordsBefore-apart (cells Y (s .heap)) (λ x. omega arith) (order Y s) i j (reach-order Y s h i a) (reach-order Y s h j b) (omega arith);
+    sameLength = new-length Y s h;
+    otherHalf = new-half Y s h;
+    cleared = sound-zero Y s′ (new-sound Y s h);
+    counts = live-is Y s h ∙ sizes-packed (order Y s) (λ x m. m);
+    used = new-free Y s h ∙ ap (λ x. x + live Y s) (sym (new-first Y s h));
+    again = sound-whole Y s′ (new-sound Y s h);
+  }
+
+pub demand2 : (Y : Layout) (s : State) → sound Y s ≡ true → D.Demand2 Y (machine Y) s
+unfolding step Calls.collect refuse
+demand2 Y s e =
+    let h = sound-parts Y s e in
+    let o : step Y Ask.Collect s ≡ says (Says.Live (live Y s)) (collected Y s) = rw (unshaped s (h .shape), e) in
+    record { L = live Y s; answers = ap (λ z. z .answer) o; leaves = subst (λ z. D.Collects Y s (z .left) (live Y s)) (sym o) (collects Y s h) }
