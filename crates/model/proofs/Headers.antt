@@ -2,12 +2,13 @@
 use Prim.Native.Nat.{ℕ, _+_, _*_, _%_, _≤_}
 use native.Mathlib.Omega.{arith}
 use mathlib.Core.Path.{_≡_}
-use mathlib.Core.Bool.{true}
-use borrow.Author.Tests.{eq-eqb, lt-ltb, le-ltb}
+use mathlib.Core.Bool.{true, false}
+use borrow.Author.Tests.{eq-eqb, ne-eqb, lt-ltb, le-ltb}
 use Rattle.model.specs.declared.Kind.{Kind}
 use Rattle.model.specs.declared.Kind.the-variants.{Traced, Untraced}
 use Rattle.model.specs.Headers.{Lawful, tuple}
 use Rattle.model.specs.Limits.{maxFields}
+use Rattle.model.specs.Words.{addressOf}
 
 tuple-clear : (k : Kind) (n : ℕ) → n ≤ maxFields → tuple .isHeader (tuple .header k n) ≡ true
 unfolding tuple
@@ -24,5 +25,13 @@ unfolding tuple
 tuple-kinds Traced n l = rw (lt-ltb (0 + 2 * n) 2147483648 (omega arith))
 tuple-kinds Untraced n l = rw (le-ltb (2147483648 + 2 * n) 2147483648 (omega arith))
 
+tuple-marks : (i : ℕ) → tuple .isHeader (tuple .mark (addressOf i)) ≡ false
+unfolding tuple
+tuple-marks i = ne-eqb ((4 * i + 1) % 2) 0 (λ e. omega arith)
+
+tuple-unmarks : (i : ℕ) → tuple .unmark (tuple .mark (addressOf i)) ≡ addressOf i
+unfolding tuple
+tuple-unmarks i = omega arith
+
 pub tuple-lawful : Lawful tuple
-tuple-lawful = record { clear = tuple-clear; counts = tuple-counts; kinds = tuple-kinds }
+tuple-lawful = record { clear = tuple-clear; counts = tuple-counts; kinds = tuple-kinds; marks = tuple-marks; unmarks = tuple-unmarks }

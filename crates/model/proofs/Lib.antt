@@ -20,3 +20,14 @@ pub mod Order
 pub mod Collected
 pub mod CollectedSound
 pub mod Demand2
+pub mod Keeping
+pub mod Placing
+pub mod Represents
+pub mod RootCalls
+pub mod FieldCalls
+pub mod GraphWords
+pub mod CollectCall
+pub mod PlaceCall
+pub mod AllocateCall
+pub mod Stage
+pub mod During

@@ -3,13 +3,14 @@
 --
 --     bit 31      bits 30 to 1      bit 0
 --     untraced    n, the fields     0 outside a collection; 1: bits 31 to 1 are the new address
-use Prim.Native.Nat.{ℕ, _+_, _*_, _/_, _%_, _≤_}
+use Prim.Native.Nat.{ℕ, _+_, _*_, _-_, _/_, _%_, _≤_}
 use mathlib.Core.Path.{_≡_}
-use mathlib.Core.Bool.{Bool, true, cond}
+use mathlib.Core.Bool.{Bool, true, false, cond}
 use lib.Dec.{ltb, eqb}
 use Rattle.model.specs.declared.Kind.{Kind}
 use Rattle.model.specs.declared.Kind.the-variants.{Traced, Untraced}
 use Rattle.model.specs.Limits.{maxFields}
+use Rattle.model.specs.Words.{addressOf}
 
 pub record Layout : Type 0 where
   -- the header of an object of a kind with n fields
@@ -21,14 +22,17 @@ pub record Layout : Type 0 where
   pub countOf : ℕ → ℕ
   -- an object's address is that of the word so many words past its header
   pub ahead : ℕ
-  -- what a forwarded header holds, of the new address
+  -- what a forwarded header holds, of the new address; and the new address again
   pub mark : ℕ → ℕ
+  pub unmark : ℕ → ℕ
 
--- what is written is a header and reads back
+-- what is written is a header and reads back; a mark is no header and reads back
 pub record Lawful (Y : Layout) : Type 0 where
   pub clear : (k : Kind) (n : ℕ) → n ≤ maxFields → Y .isHeader (Y .header k n) ≡ true
   pub counts : (k : Kind) (n : ℕ) → n ≤ maxFields → Y .countOf (Y .header k n) ≡ n
   pub kinds : (k : Kind) (n : ℕ) → n ≤ maxFields → Y .kindOf (Y .header k n) ≡ k
+  pub marks : (i : ℕ) → Y .isHeader (Y .mark (addressOf i)) ≡ false
+  pub unmarks : (i : ℕ) → Y .unmark (Y .mark (addressOf i)) ≡ addressOf i
 
 abbrev pub bit31 : Kind → ℕ
 bit31 Traced = 0
@@ -42,4 +46,5 @@ tuple = record {
   countOf = λ h. h / 2 % 1_073_741_824;
   ahead = 0;
   mark = λ a. a + 1;
+  unmark = λ m. m - 1;
 }

@@ -1,0 +1,34 @@
+-- The words of all objects of a graph, counted two ways. Assumes nothing.
+use Prim.Native.Nat.{ℕ, zero, suc, _+_, _<_}
+use native.Mathlib.Omega.{arith}
+use mathlib.Core.Path.{_≡_, refl, ap, _∙_}
+use mathlib.Core.List.{List, [], _∷_, _++_, map}
+use lib.ListN.{length, getD, length-append}
+use Rattle.model.specs.Collection.{cells}
+use Rattle.model.specs.Discovery.{packed}
+use Rattle.model.specs.Graph.{Object, traced, objectCells, totalWords}
+use Rattle.model.proofs.Members.{In, in-tail, in-self, in-map}
+
+-- the numbers below n
+unfoldable pub below : ℕ → List ℕ
+below zero = []
+below (suc n) = 0 ∷ map suc (below n)
+
+pub in-below : (x n : ℕ) → x < n → In x (below n)
+unfolding below
+in-below x zero l = absurd (omega arith)
+in-below zero (suc n) l = in-self 0 (map suc (below n))
+in-below (suc x) (suc n) l = in-tail (suc x) 0 (map suc (below n)) (in-map suc x (below n) (in-below x n (omega arith)))
+
+packed-shift : {C : Type 0} (cells : ℕ → List C) (o : List ℕ) → packed cells (map suc o) ≡ packed (λ i. cells (suc i)) o
+unfolding packed
+packed-shift cells [] = refl
+packed-shift cells (i ∷ o) = ap (λ r. cells (suc i) ++ r) (packed-shift cells o)
+
+pub total-packed : (bs : List Object) → length (packed (λ i. objectCells (getD bs i (traced []))) (below (length bs))) ≡ totalWords bs
+unfolding packed below totalWords
+total-packed [] = refl
+total-packed (b ∷ bs) =
+    length-append (objectCells b) (packed (λ i. objectCells (getD (b ∷ bs) i (traced []))) (map suc (below (length bs))))
+    ∙ ap (λ z. length (objectCells b) + z)
+    (ap length (packed-shift (λ i. objectCells (getD (b ∷ bs) i (traced []))) (below (length bs))) ∙ total-packed bs)

@@ -1,0 +1,175 @@
+-- A new object at the free index keeps a state sound. Assumes nothing.
+use Prim.Native.Nat.{ℕ, suc, _+_, _*_, _-_, _/_, _%_, _≤_, _<_}
+use native.Mathlib.Omega.{arith}
+use native.Mathlib.Nat.{add-zero}
+use mathlib.Core.Path.{_≡_, refl, sym, ap, _∙_}
+use mathlib.Core.Logic.{⊎-elim}
+use mathlib.Core.Bool.{true, not, _&&_}
+use mathlib.Core.List.{List, [], _∷_, _++_}
+use lib.Dec.{eqb}
+use lib.IntN.{pos}
+use lib.ListN.{length, replicate, length-set, length-replicate, getD-replicate}
+use lib.Seq.{sets, length-sets, getD-set-same, getD-set-other}
+use Rattle.model.specs.declared.Kind.{Kind}
+use Rattle.model.specs.declared.Kind.the-variants.{Traced}
+use Rattle.model.specs.Changes.{spare, placed}
+use Rattle.model.specs.Discovery.{mem}
+use Rattle.model.specs.Graph.{null}
+use Rattle.model.specs.Headers.{Layout, Lawful}
+use Rattle.model.specs.Limits.{maxFields}
+use Rattle.model.specs.Objects.{address, index, kind, fieldCount, size}
+use Rattle.model.specs.Soundness.{tiles, headersFrom, headers, isValue}
+use Rattle.model.specs.Values.{isAddress}
+use Rattle.model.specs.Words.{State, at, halfWords, other, firstOf, firstWord, otherFirst, free}
+use Rattle.model.proofs.Keeping.{tile}
+use Rattle.model.proofs.Lists.{sets-before, sets-in, sets-past}
+use Rattle.model.proofs.Members.{In, in-append-left, in-snoc, in-last}
+use Rattle.model.proofs.Retiling.{tiles-snoc}
+use Rattle.model.proofs.Shape.{first-in, halves-apart}
+use Rattle.model.proofs.Soundness.{Sound}
+use Rattle.model.proofs.Tests.{decide, same?, or-cases, or-left, or-right, and-both, both-and}
+use Rattle.model.proofs.Values.{address-value}
+
+module _ (Y : Layout) where
+  -- a value stays one where there are more headers
+  pub value-more : (hs ks : List ℕ) (w : ℕ) → isValue Y hs w ≡ true → isValue Y (hs ++ ks) w ≡ true
+  unfolding isValue
+  value-more hs ks w v =
+      ⊎-elim
+      (λ (p : not (isAddress w) ≡ true). or-left (not (isAddress w)) (eqb (w % 4) 0 && mem (index Y w) (hs ++ ks)) p)
+      (λ (p : (eqb (w % 4) 0 && mem (index Y w) hs) ≡ true).
+      let a = and-both (eqb (w % 4) 0) (mem (index Y w) hs) p in
+      or-right (not (isAddress w)) (eqb (w % 4) 0 && mem (index Y w) (hs ++ ks))
+      (both-and (eqb (w % 4) 0) (mem (index Y w) (hs ++ ks)) (a .0) (in-append-left (index Y w) hs ks (a .1))))
+      (or-cases (not (isAddress w)) (eqb (w % 4) 0 && mem (index Y w) hs) v)
+
+  pub zero-value : (hs : List ℕ) → isValue Y hs 0 ≡ true
+  unfolding isValue
+  zero-value hs = refl
+
+module _ (Y : Layout) (law : Lawful Y) (s : State) (h : Sound Y s) (k : Kind) (n r : ℕ) (small : n ≤ maxFields) (fit : n + 1 ≤ spare s) where
+  abbrev s⁺ : State
+  s⁺ = placed Y k n r s
+
+  abbrev vs : List ℕ
+  vs = Y .header k n ∷ replicate n 0
+
+  fits : free s + (n + 1) ≤ firstWord s + halfWords (s .heap)
+  fits = omega (arith, h .shape .low)
+
+  vs-length : length vs ≡ n + 1
+  vs-length = let z : length {A = ℕ} (replicate n 0) ≡ n = length-replicate n 0 in omega arith
+
+  in-heap : free s + length vs ≤ length (s .heap)
+  in-heap = let b = first-in s (h .shape) in omega (arith, fits, vs-length)
+
+  pub place-length : length (s⁺ .heap) ≡ length (s .heap)
+  unfolding placed
+  place-length = length-sets (s .heap) (free s) vs
+
+  place-room : halfWords (s⁺ .heap) ≡ halfWords (s .heap)
+  place-room = ap (λ x. (x - 1) / 2) place-length
+
+  place-first : firstWord s⁺ ≡ firstWord s
+  unfolding placed
+  place-first = ap (λ x. firstOf x (s .«record» .half)) place-room
+
+  place-other-first : otherFirst s⁺ ≡ otherFirst s
+  unfolding placed
+  place-other-first = ap (λ x. firstOf x (other (s .«record» .half))) place-room
+
+  pub place-header : at (s⁺ .heap) (free s) ≡ Y .header k n
+  unfolding placed
+  place-header = ap (λ x. at (sets (s .heap) (free s) vs) x) (sym (add-zero (free s))) ∙ sets-in (s .heap) (free s) vs 0 in-heap (omega (arith, vs-length))
+
+  -- no other word changes
+  pub place-other : (j : ℕ) → (j ≡ free s → ⊥) → at (s⁺ .heap) j ≡ at (s .heap) j
+  unfolding placed
+  place-other j d =
+      ⊎-elim
+      (λ (l : j < free s). sets-before (s .heap) (free s) vs j l)
+      (λ (l : free s ≤ j).
+      ⊎-elim
+      (λ (m : j < free s + length vs).
+      let e : free s + suc (j - free s - 1) ≡ j = omega arith in
+      ap (λ x. at (sets (s .heap) (free s) vs) x) (sym e)
+      ∙ sets-in (s .heap) (free s) vs (suc (j - free s - 1)) in-heap (omega arith)
+      ∙ getD-replicate n (j - free s - 1) 0 0 (let z : length {A = ℕ} (replicate n 0) ≡ n = length-replicate n 0 in omega arith)
+      ∙ sym (h .rest j l (omega (arith, fits, vs-length))))
+      (λ (m : free s + length vs ≤ j). sets-past (s .heap) (free s) vs j m)
+      (decide j (free s + length vs)))
+      (decide j (free s))
+
+  pub place-size : size Y (s⁺ .heap) (free s) ≡ n + 1
+  place-size = ap (λ x. Y .countOf x + 1) place-header ∙ ap (λ x. x + 1) (law .counts k n small)
+
+  place-both : (tiles Y (s⁺ .heap) (free s + (n + 1)) (free s + (n + 1) - firstWord s) (firstWord s) ≡ true)
+      × (headersFrom Y (s⁺ .heap) (free s + (n + 1)) (free s + (n + 1) - firstWord s) (firstWord s) ≡ headers Y s ++ (free s ∷ []))
+  place-both =
+      tiles-snoc Y (s .heap) (s⁺ .heap) (free s) (free s + (n + 1)) (free s - firstWord s) (free s + (n + 1) - firstWord s) (firstWord s) (h .tiled)
+      (λ j m. place-other j (λ e. let t = tile Y s h j m .within in omega arith))
+      (ap (λ x. Y .isHeader x) place-header ∙ law .clear k n small)
+      (ap (λ x. free s + x) (sym place-size))
+      (omega (arith, h .shape .low))
+
+  pub place-free : free s⁺ ≡ free s + (n + 1)
+  unfolding placed
+  place-free = refl
+
+  pub place-headers : headers Y s⁺ ≡ headers Y s ++ (free s ∷ [])
+  place-headers = rw (place-first, place-free) (place-both .1)
+
+  place-roots : length (s⁺ .roots) ≡ length (s .roots)
+  unfolding placed
+  place-roots = length-set (s .roots) r (address Y (free s))
+
+  place-root : (q : ℕ) → q < length (s .roots) → isValue Y (headers Y s ++ (free s ∷ [])) (at (s⁺ .roots) q) ≡ true
+  unfolding placed
+  place-root q l =
+      ⊎-elim
+      (λ (e : q ≡ r).
+      rw (e, getD-set-same (s .roots) r (address Y (free s)) 0 (omega arith))
+      (address-value Y (headers Y s ++ (free s ∷ [])) (free s) (in-last (free s) (headers Y s))))
+      (λ (d : q ≡ r → ⊥).
+      rw (getD-set-other (s .roots) r q (address Y (free s)) 0 d) (value-more Y (headers Y s) (free s ∷ []) (at (s .roots) q) (h .roots q l)))
+      (same? q r)
+
+  place-value : (i f : ℕ) → In i (headers Y s ++ (free s ∷ [])) → kind Y (s⁺ .heap) i ≡ Traced → f < fieldCount Y (s⁺ .heap) i
+      → isValue Y (headers Y s ++ (free s ∷ [])) (at (s⁺ .heap) (i + 1 + f)) ≡ true
+  place-value i f m q l =
+      ⊎-elim
+      (λ (a : In i (headers Y s)).
+      let t = tile Y s h i a .within in
+      let e = place-other i (λ z. omega arith) in
+      let c = ap (λ x. Y .countOf x) e in
+      rw (place-other (i + 1 + f) (λ z. omega arith))
+      (value-more Y (headers Y s) (free s ∷ []) (at (s .heap) (i + 1 + f))
+      (h .values i f a (sym (ap (λ x. Y .kindOf x) e) ∙ q) (omega arith))))
+      (λ (a : i ≡ free s).
+      let z : f < n = let c = place-size in let d : fieldCount Y (s⁺ .heap) i ≡ fieldCount Y (s⁺ .heap) (free s) = ap (λ x. fieldCount Y (s⁺ .heap) x) a in omega arith in
+      rw (place-other (i + 1 + f) (λ y. omega arith), h .rest (i + 1 + f) (omega arith) (omega (arith, fits))) (zero-value Y (headers Y s ++ (free s ∷ []))))
+      (in-snoc i (free s) (headers Y s) m)
+
+  pub place-sound : Sound Y s⁺
+  place-sound = record {
+    shape = record {
+      odd = place-length ∙ h .shape .odd ∙ ap (λ x. 2 * x + 1) (sym place-room);
+      pos = rw place-room (h .shape .pos);
+      small = rw place-room (h .shape .small);
+      few = rw place-roots (h .shape .few);
+      low = rw (place-first, place-free) (omega (arith, h .shape .low));
+      high = rw (place-first, place-room, place-free) fits;
+    };
+    null = place-other 0 (λ e. let b = first-in s (h .shape) in omega (arith, h .shape .low)) ∙ h .null;
+    idle = λ i l m.
+        let l′ : otherFirst s ≤ i = rw place-other-first at l in
+        let m′ : i < otherFirst s + halfWords (s .heap) = rw (place-other-first, place-room) at m in
+        place-other i (λ e. ⊎-elim (λ (x : i < firstWord s). omega (arith, h .shape .low)) (λ (x : firstWord s + halfWords (s .heap) ≤ i). omega (arith, fits)) (halves-apart s i l′ m′)) ∙ h .idle i l′ m′;
+    rest = λ i l m.
+        let m′ : i < firstWord s + halfWords (s .heap) = rw (place-first, place-room) at m in
+        let l′ : free s + (n + 1) ≤ i = rw place-free at l in
+        place-other i (λ e. omega arith) ∙ h .rest i (omega arith) m′;
+    tiled = rw (place-first, place-free) (place-both .0);
+    roots = λ q l. rw place-headers (place-root q (let z = place-roots in omega arith));
+    values = λ i f m q l. rw place-headers (place-value i f (rw place-headers at m) q l);
+  }
