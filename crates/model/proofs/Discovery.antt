@@ -118,4 +118,3 @@ module _ {C : Type 0} (cells : ℕ → List C) (blank : C) (leads : C → Option
   unfolding found
   reach-found quiet q l j (root k e) = starts-in j (F 0) (F q) (found-later 0 q (omega arith)) (visits-has [] R k j e)
   reach-found quiet q l j (cell k {i} r e) = found-closed quiet q l i k j (reach-found quiet q l i r) e
-

@@ -97,9 +97,11 @@ module _ {C : Type 0} (cells : ℕ → List C) (blank : C) (leads : C → Option
       ap (λ z. R ++ map leads z) (sym (take-append-drop (suc p) (packed cells o)))
       ∙ ap (λ z. R ++ z) (map-append leads (take (suc p) (packed cells o)) (drop (suc p) (packed cells o)))
       ∙ sym (append-assoc R (map leads (take (suc p) (packed cells o))) (map leads (drop (suc p) (packed cells o)))) in
-      let s = visits-starts (F (suc p)) (map leads (drop (suc p) (packed cells o))) in
-      (s .0, e ∙ ap (visits []) g ∙ visits-append [] (along (suc p) o) (map leads (drop (suc p) (packed cells o)))
-      ∙ ap (λ z. visits z (map leads (drop (suc p) (packed cells o)))) m ∙ s .1))
+      let s = visits-starts (F (suc p)) (map leads (drop (suc p) (packed cells o))) in (
+        s .0,
+        e ∙ ap (visits []) g ∙ visits-append [] (along (suc p) o) (map leads (drop (suc p) (packed cells o)))
+            ∙ ap (λ z. visits z (map leads (drop (suc p) (packed cells o)))) m ∙ s .1,
+      ))
       (λ (b : ltb p (length (packed cells (F p))) ≡ false).
       subst (λ z. Starts z o) (sym (still p (ltb-false _ _ b))) t)
       (by-test (ltb p (length (packed cells (F p)))))

@@ -171,4 +171,3 @@ module _ (Y : Layout) where
       shape-passes Y s g _ _ m
       (refuse-agrees Y (noRoot s r) (noRootᵍ g r) Why.Root s g _ _ m (same-roots Y s g r m) (λ a.
       inspect-word s g m (rootValue g r) (rootWord s r) (m .roots r (has-root s g m r a))))
-

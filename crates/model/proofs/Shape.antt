@@ -1,5 +1,5 @@
 -- SHAPE by its parts, and the halves of a heap that has its shape. Assumes nothing.
-use Prim.Native.Nat.{ℕ, _+_, _*_, _%_, _≤_, _<_}
+use Prim.Native.Nat.{ℕ, _+_, _*_, _-_, _/_, _%_, _≤_, _<_}
 use native.Mathlib.Omega.{arith}
 use mathlib.Core.Path.{_≡_}
 use mathlib.Core.Logic.{_⊎_, inl, inr, ⊎-elim}
@@ -10,7 +10,7 @@ use borrow.Author.Tests.{ltb-false, eqb-false, ne-eqb, le-ltb}
 use Rattle.model.specs.declared.Half.{Half}
 use Rattle.model.specs.declared.Half.the-variants.{A, B}
 use Rattle.model.specs.Limits.{maxHalf, maxWords, maxRoots}
-use Rattle.model.specs.Shape.{badShapeOf, badShape}
+use Rattle.model.specs.Shape.{badLength, badShapeOf, badShape}
 use Rattle.model.specs.Words.{State, halfWords, other, firstOf, firstWord, otherFirst, free}
 use Rattle.model.proofs.Tests.{decide, or-none}
 
@@ -22,21 +22,32 @@ pub record Shaped (s : State) : Type 0 where
   pub low : firstWord s ≤ free s
   pub high : free s ≤ firstWord s + halfWords (s .heap)
 
+-- a length that is not refused: odd, and in its range
+pub record GoodLength (words : ℕ) : Type 0 where
+  pub odd : words ≡ 2 * ((words - 1) / 2) + 1
+  pub least : 1 ≤ (words - 1) / 2
+  pub most : (words - 1) / 2 ≤ maxHalf
+
+pub good-length : (words : ℕ) → badLength words ≡ false → GoodLength words
+good-length words h =
+    let d = or-none _ (ltb maxWords words) h in
+    let e = or-none (eqb (words % 2) 0) (ltb words 3) (d .0) in
+    let f : words % 2 ≡ 0 → ⊥ = eqb-false (words % 2) 0 (e .0) in
+    let g : 3 ≤ words = ltb-false words 3 (e .1) in
+    let i : words ≤ maxWords = ltb-false maxWords words (d .1) in
+    record { odd = omega arith; least = omega arith; most = omega arith }
+
 pub shaped : (s : State) → badShape s ≡ false → Shaped s
 unfolding badShapeOf
 shaped s h =
     let a = or-none _ (ltb (firstWord s + halfWords (s .heap)) (free s)) h in
     let b = or-none _ (ltb (free s) (firstWord s)) (a .0) in
-    let c = or-none _ (ltb maxRoots (length (s .roots))) (b .0) in
-    let d = or-none _ (ltb maxWords (length (s .heap))) (c .0) in
-    let e = or-none (eqb (length (s .heap) % 2) 0) (ltb (length (s .heap)) 3) (d .0) in
-    let f : length (s .heap) % 2 ≡ 0 → ⊥ = eqb-false _ _ (e .0) in
-    let g : 3 ≤ length (s .heap) = ltb-false _ _ (e .1) in
-    let i : length (s .heap) ≤ maxWords = ltb-false _ _ (d .1) in
+    let c = or-none (badLength (length (s .heap))) (ltb maxRoots (length (s .roots))) (b .0) in
+    let g = good-length (length (s .heap)) (c .0) in
     record {
-      odd = omega arith;
-      pos = omega arith;
-      small = omega arith;
+      odd = g .odd;
+      pos = g .least;
+      small = g .most;
       few = ltb-false _ _ (c .1);
       low = ltb-false _ _ (b .1);
       high = ltb-false _ _ (a .1);
@@ -55,6 +66,10 @@ unshaped s h =
       le-ltb (free s) (firstWord s) (h .low),
       le-ltb (firstWord s + halfWords (s .heap)) (free s) (h .high),
     )
+
+pub first-most : (S : ℕ) (f : Half) → firstOf S f ≤ S + 1
+first-most S A = omega arith
+first-most S B = omega arith
 
 -- the first word of either half, and where it ends
 pub half-in : (s : State) → Shaped s → (f : Half) → (1 ≤ firstOf (halfWords (s .heap)) f) × (firstOf (halfWords (s .heap)) f + halfWords (s .heap) ≤ length (s .heap))

@@ -71,4 +71,3 @@ unfolding visits
 visits-only o [] j h = inl h
 visits-only o (l ∷ ls) j h =
     ⊎-elim (λ m. ⊎-elim inl (λ e. inr (zero, e)) (visit-only o l j m)) (λ t. inr (suc (t .0), t .1)) (visits-only (visit o l) ls j h)
-

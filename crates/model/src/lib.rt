@@ -80,16 +80,48 @@ pub struct Answered {
 pub enum Call {
     Collect,
     Check,
-    Allocate { kind: Kind, fields: usize, to: usize },
-    SetInteger { to: usize, value: i64 },
-    SetNull { to: usize },
-    Copy { from: usize, to: usize },
-    Load { object: usize, field: usize, to: usize },
-    Store { object: usize, field: usize, from: usize },
-    RawRead { object: usize, field: usize },
-    RawWrite { object: usize, field: usize, number: u32 },
-    Same { one: usize, other: usize },
-    Inspect { root: usize },
+    Allocate {
+        kind: Kind,
+        fields: usize,
+        to: usize,
+    },
+    SetInteger {
+        to: usize,
+        value: i64,
+    },
+    SetNull {
+        to: usize,
+    },
+    Copy {
+        from: usize,
+        to: usize,
+    },
+    Load {
+        object: usize,
+        field: usize,
+        to: usize,
+    },
+    Store {
+        object: usize,
+        field: usize,
+        from: usize,
+    },
+    RawRead {
+        object: usize,
+        field: usize,
+    },
+    RawWrite {
+        object: usize,
+        field: usize,
+        number: u32,
+    },
+    Same {
+        one: usize,
+        other: usize,
+    },
+    Inspect {
+        root: usize,
+    },
 }
 
 // Where the object of a window stands, the index of its header and its field count; or why there is none.

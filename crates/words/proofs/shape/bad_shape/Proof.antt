@@ -1,0 +1,59 @@
+-- `words::shape::bad_shape` meets its contract, test by test.
+use mathlib.Core.Path.{_≡_, refl, sym, ap, _∙_}
+use borrow.Author.Tests.{lt-ltb, le-ltb}
+use native.Mathlib.Omega.{arith}
+use Prim.Native.Nat.{_-_, _/_}
+use Rattle.model.specs.Shape.{badShapeOf}
+use Rattle.model.proofs.Shape.{GoodLength, good-length, first-most}
+use borrow.Author.Needs.{needs}
+use Rattle.words.proofs.shape.bad_shape.Statement.{statement}
+use Rattle.words.proofs.shape.bad_shape.Tie as tie
+use Rattle.words.proofs.shape.bad_shape.Reads as reads
+use Rattle.words.proofs.shape.bad_shape.Lts as lts
+use Rattle.words.proofs.shape.bad_length.Reads as bad-length-reads
+use Rattle.words.proofs.shape.first_of.Reads as first-of-reads
+
+-- what is known of the length once it is not refused
+good : (c : tie.Else1) → GoodLength (c .before .before .args .words)
+good c = good-length _ (sym (c .before .bad-length .ensures) ∙ c .if1 .left)
+
+bad-length-requires : tie.Need-bad-length-requires
+bad-length-requires c κs = search needs
+
+returns : tie.Need-returns
+unfolding badShapeOf
+returns c = simp (sym (c .before .bad-length .ensures) ∙ c .if1 .taken)
+
+returns-2 : tie.Need-returns-2
+unfolding badShapeOf
+returns-2 c = simp (sym (c .before .before .bad-length .ensures) ∙ c .before .if1 .left, lt-ltb _ _ (c .if2 .taken))
+
+sub-size : tie.Need-sub-size
+sub-size c = omega (arith, good (c .before))
+
+first-of-requires : tie.Need-first-of-requires
+first-of-requires c κs = good (c .before) .most
+
+returns-3 : tie.Need-returns-3
+unfolding badShapeOf
+returns-3 c = simp (sym (c .before .before .before .before .bad-length .ensures) ∙ c .before .before .before .if1 .left, le-ltb _ _ (c .before .before .if2 .left), lt-ltb _ _ (rw (c .before .first-of .ensures) at (c .if3 .taken)))
+
+add-result : tie.Need-add-result
+add-result c = record { fits = omega (arith, c .before .first-of .ensures, first-most ((c .before .before .before .before .before .args .words - 1) / 2) (c .before .before .before .before .before .args .«record» .half), good (c .before .before .before)) }
+
+returns-4 : tie.Need-returns-4
+unfolding badShapeOf
+returns-4 c = simp (sym (c .before .before .before .before .bad-length .ensures) ∙ c .before .before .before .if1 .left, le-ltb _ _ (c .before .before .if2 .left), le-ltb _ _ (rw (c .before .first-of .ensures) at (c .if3 .left)), c .before .first-of .ensures)
+
+pub bad-shape-spec : {M : Type 1} → statement M
+bad-shape-spec =
+    tie.close
+    (tie.spec
+    bad-length-requires
+    returns
+    returns-2
+    sub-size
+    first-of-requires
+    returns-3
+    add-result
+    returns-4)
