@@ -6,7 +6,7 @@ use mathlib.Core.Logic.{_⊎_, inl, inr, ⊎-elim, _↔_}
 use lib.ListN.{length}
 use borrow.Author.Tests.{lt-ltb, le-ltb, le-leb, lt-leb}
 use Rattle.model.specs.declared.Kind.{Kind}
-use Rattle.model.specs.declared.Refusal.{Refusal}
+use Rattle.model.specs.declared.Call.{Call}
 use Rattle.model.specs.declared.Refusal.the-variants as Why
 use Rattle.model.specs.declared.Answer.the-variants as Says
 use Rattle.model.specs.declared.Call.the-variants as Ask
@@ -21,6 +21,7 @@ use Rattle.model.specs.Headers.{Layout, Lawful}
 use Rattle.model.specs.Limits.{maxFields}
 use Rattle.model.specs.Sessions.{step}
 use Rattle.model.specs.Words.{State, halfWords}
+use Rattle.model.proofs.Answers.{done-plainly}
 use Rattle.model.proofs.CollectCall.{collect-represents}
 use Rattle.model.proofs.Collected.{live-is, new-room, new-first, new-free}
 use Rattle.model.proofs.Order.{orderAt-fits, order-fits}
@@ -29,9 +30,6 @@ use Rattle.model.proofs.Represents.{Represents, Agrees}
 use Rattle.model.proofs.Shape.{unshaped}
 use Rattle.model.proofs.Soundness.{Sound, sound-whole}
 use Rattle.model.proofs.Tests.{decide}
-
-pub done-refused : (k : Refusal) → Says.Done ≡ Says.Refused k → ⊥
-done-refused k e = let z : _≡_ {A = ℕ} 0 1 = cc in omega arith
 
 module _ (Y : Layout) (s : State) (h : Sound Y s) where
   -- the words that are free after a collection; what fits now would fit then
@@ -78,18 +76,24 @@ module _ (Y : Layout) (k : Kind) (n r : ℕ) (s : State) (h : Sound Y s) where
   allocate-room l u = go (step Y (Ask.Allocate k n r) s) (allocation Y k n r s h l u)
     where
       go : (o : Outcome) → Allocation Y k n r s o → (o .answer ≡ D3.noRoom) ↔ (halfWords (s .heap) < live Y s + (n + 1))
-      go o (now f) = (λ e. absurd (done-refused Why.Room e), λ e. absurd (omega (arith, spare-grows Y s h)))
-      go o (later f) = (λ e. absurd (done-refused Why.Room e), λ e. absurd (omega arith))
+      go o (now f) = (λ e. absurd (done-plainly Why.Room e), λ e. absurd (omega (arith, spare-grows Y s h)))
+      go o (later f) = (λ e. absurd (done-plainly Why.Room e), λ e. absurd (omega arith))
       go o (never-fits f) = (λ e. f, λ e. refl)
 
--- the heap answers "no room" and goes on standing for the graph
-pub record Full (Y : Layout) (g : Graph) (o : Outcome) : Type 0 where
+-- the call is an allocation, which the heap answers "no room" and goes on standing for the graph
+pub record Full (Y : Layout) (c : Call) (s : State) (g : Graph) (o : Outcome) : Type 0 where
+  pub kind : Kind
+  pub fields : ℕ
+  pub to : ℕ
+  pub is : c ≡ Ask.Allocate kind fields to
+  pub named : to < length (s .roots)
+  pub small : fields ≤ maxFields
   pub answers : o .answer ≡ D3.noRoom
   pub stands : Represents Y (o .left) g
 
 module _ (Y : Layout) (law : Lawful Y) where
   pub allocate-agrees : (k : Kind) (n r : ℕ) (s : State) (g : Graph) → Represents Y s g
-      → Full Y g (step Y (Ask.Allocate k n r) s) ⊎ Agrees Y (step Y (Ask.Allocate k n r) s) (stepᵍ (Ask.Allocate k n r) g)
+      → Full Y (Ask.Allocate k n r) s g (step Y (Ask.Allocate k n r) s) ⊎ Agrees Y (step Y (Ask.Allocate k n r) s) (stepᵍ (Ask.Allocate k n r) g)
   unfolding stepᵍ refuseᵍ
   allocate-agrees k n r s g m =
       ⊎-elim
@@ -99,14 +103,15 @@ module _ (Y : Layout) (law : Lawful Y) where
       inr (rw (allocate-count Y k n r s (m .ok) l u, lt-leb (length (g .roots)) r (omega (arith, m .count)), lt-ltb maxFields n u) (refl, m)))
       (λ (u : n ≤ maxFields).
       rw (lt-leb (length (g .roots)) r (omega (arith, m .count)), le-ltb maxFields n u)
-      (go (step Y (Ask.Allocate k n r) s) u (allocation Y k n r s (m .ok) l u)))
+      (go (step Y (Ask.Allocate k n r) s) l u (allocation Y k n r s (m .ok) l u)))
       (decide maxFields n))
       (λ (l : length (s .roots) ≤ r).
       inr (rw (allocate-root Y k n r s (m .ok) l, le-leb (length (g .roots)) r (omega (arith, m .count))) (refl, m)))
       (decide r (length (s .roots)))
     where
-      go : (o : Outcome) → n ≤ maxFields → Allocation Y k n r s o → Full Y g o ⊎ Agrees Y o (saysᵍ Says.Done (grown k n r g))
-      go o u (now f) = inr (refl, place-represents Y law s g m k n r u f)
-      go o u (later f) =
+      go : (o : Outcome) → r < length (s .roots) → n ≤ maxFields → Allocation Y k n r s o → Full Y (Ask.Allocate k n r) s g o ⊎ Agrees Y o (saysᵍ Says.Done (grown k n r g))
+      go o l u (now f) = inr (refl, place-represents Y law s g m k n r u f)
+      go o l u (later f) =
           inr (refl, place-represents Y law (collected Y s) g (collect-represents Y s g m) k n r u (omega (arith, spare-after Y s (m .ok))))
-      go o u (never-fits f) = inl (record { answers = refl; stands = collect-represents Y s g m })
+      go o l u (never-fits f) =
+          inl (record { kind = k; fields = n; to = r; is = refl; named = l; small = u; answers = refl; stands = collect-represents Y s g m })

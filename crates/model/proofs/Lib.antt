@@ -31,3 +31,12 @@ pub mod PlaceCall
 pub mod AllocateCall
 pub mod Stage
 pub mod During
+pub mod Lengths
+pub mod Answers
+pub mod GraphAnswers
+pub mod GraphReach
+pub mod GraphClosed
+pub mod KeepSound
+pub mod Session
+pub mod Start
+pub mod Demand3

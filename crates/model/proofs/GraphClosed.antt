@@ -1,0 +1,166 @@
+-- The graph of a session names only objects that it has. Assumes nothing.
+use Prim.Native.Nat.{ℕ, _+_, _≤_, _<_}
+use native.Mathlib.Omega.{arith}
+use mathlib.Core.Path.{_≡_, refl, sym, ap, subst}
+use mathlib.Core.Logic.{⊎-elim}
+use mathlib.Core.Bool.{Bool, true, false}
+use mathlib.Core.List.{List, [], _∷_, _++_}
+use lib.ListN.{length, getD, set, length-append, length-set, List·getD-append, List·getD-eq-default}
+use lib.Seq.{getD-set-same, getD-set-other, getD-append-seam, set-out}
+use Rattle.model.specs.declared.Kind.{Kind}
+use Rattle.model.specs.declared.Kind.the-variants.{Traced, Untraced}
+use Rattle.model.specs.declared.Refusal.{Refusal}
+use Rattle.model.specs.declared.Call.{Call}
+use Rattle.model.specs.declared.Refusal.the-variants as Why
+use Rattle.model.specs.declared.Call.the-variants as Ask
+use Rattle.model.specs.Demand3 as D3
+use Rattle.model.specs.Graph.{integer, null, Value, plain, object, Object, traced, untraced, Graph, emptyGraph, nth, rootValue}
+use Rattle.model.specs.GraphCalls.{Outcomeᵍ, refuseᵍ, withRootᵍ, withObject, blankObject, grown, byKind, onObject, inspected, stepᵍ, afterᵍ}
+use Rattle.model.proofs.Lists.{getD-same}
+use Rattle.model.proofs.Tests.{decide, same?}
+
+-- a value names one of n objects, or none
+abbrev pub Under : ℕ → Value → Type 0
+Under n (plain p) = Unit {0}
+Under n (object i) = i < n
+
+abbrev pub UnderAll : ℕ → Object → Type 0
+UnderAll n (traced vs) = (f : ℕ) → Under n (getD vs f (plain null))
+UnderAll n (untraced ws) = Unit {0}
+
+pub record Closed (g : Graph) : Type 0 where
+  pub roots : (r : ℕ) → Under (length (g .objects)) (rootValue g r)
+  pub fields : (i : ℕ) → UnderAll (length (g .objects)) (nth g i)
+
+under-more : (n : ℕ) (v : Value) → Under n v → Under (n + 1) v
+under-more n (plain p) u = tt
+under-more n (object i) u = omega arith
+
+all-more : (n : ℕ) (b : Object) → UnderAll n b → UnderAll (n + 1) b
+all-more n (traced vs) u = λ f. under-more n (getD vs f (plain null)) (u f)
+all-more n (untraced ws) u = tt
+
+-- at each place of a list that is set at one
+set-at : {A : Type 0} (P : A → Type 0) (xs : List A) (i k : ℕ) (x d : A) → P x → ((j : ℕ) → P (getD xs j d)) → P (getD (set xs i x) k d)
+set-at P xs i k x d p f =
+    ⊎-elim
+    (λ (e : k ≡ i).
+    ⊎-elim
+    (λ (l : i < length xs). subst (λ z. P (getD (set xs i x) z d)) (sym e) (rw (getD-set-same xs i x d l) p))
+    (λ (l : length xs ≤ i). subst P (ap (λ z. getD z k d) (sym (set-out xs i x l))) (f k))
+    (decide i (length xs)))
+    (λ (n : k ≡ i → ⊥). rw (getD-set-other xs i k x d n) (f k))
+    (same? k i)
+
+blank-under : (n m : ℕ) (k : Kind) → UnderAll n (blankObject k m)
+blank-under n m Traced = λ f. rw (getD-same {A = Value} m f (plain null)) tt
+blank-under n m Untraced = tt
+
+root-closed : (g : Graph) (r : ℕ) (v : Value) → Closed g → Under (length (g .objects)) v → Closed (withRootᵍ g r v)
+root-closed g r v c u = record { roots = λ q. set-at (Under (length (g .objects))) (g .roots) r q v (plain null) u (c .roots); fields = c .fields }
+
+object-closed : (g : Graph) (i : ℕ) (b : Object) → Closed g → UnderAll (length (g .objects)) b → Closed (withObject g i b)
+object-closed g i b c u =
+    let e : length (set (g .objects) i b) ≡ length (g .objects) = length-set (g .objects) i b in
+    record {
+      roots = λ q. subst (λ n. Under n (rootValue g q)) (sym e) (c .roots q);
+      fields = λ j. subst (λ n. UnderAll n (getD (set (g .objects) i b) j (traced []))) (sym e)
+          (set-at (UnderAll (length (g .objects))) (g .objects) i j b (traced []) u (c .fields));
+    }
+
+grown-closed : (g : Graph) (k : Kind) (m r : ℕ) → Closed g → Closed (grown k m r g)
+grown-closed g k m r c =
+    let n = length (g .objects) in
+    let e : length (g .objects ++ (blankObject k m ∷ [])) ≡ length (g .objects) + 1 = length-append (g .objects) (blankObject k m ∷ []) in
+    record {
+      roots = λ q.
+          subst (λ z. Under z (getD (set (g .roots) r (object (length (g .objects)))) q (plain null))) (sym e)
+          (set-at (Under (length (g .objects) + 1)) (g .roots) r q (object (length (g .objects))) (plain null) (omega arith)
+          (λ j. under-more (length (g .objects)) (rootValue g j) (c .roots j)));
+      fields = λ i.
+          subst (λ z. UnderAll z (getD (g .objects ++ (blankObject k m ∷ [])) i (traced []))) (sym e)
+          (⊎-elim
+          (λ (l : i < length (g .objects)).
+          rw (List·getD-append (g .objects) (blankObject k m ∷ []) (traced []) i l) (all-more (length (g .objects)) (nth g i) (c .fields i)))
+          (λ (l : length (g .objects) ≤ i).
+          ⊎-elim
+          (λ (q : i ≡ length (g .objects)).
+          rw (q, getD-append-seam (g .objects) (blankObject k m) [] (traced [])) (blank-under (length (g .objects) + 1) m k))
+          (λ (q : i ≡ length (g .objects) → ⊥).
+          rw (List·getD-eq-default (g .objects ++ (blankObject k m ∷ [])) (traced []) {n = i} (omega arith)) (λ f. tt))
+          (same? i (length (g .objects))))
+          (decide i (length (g .objects))));
+    }
+
+-- ---- the calls
+
+data Ends : Outcomeᵍ → Type 0 where
+  ends : {o : Outcomeᵍ} → Closed (o .left) → Ends o
+
+refuse-ends : (b : Bool) (k : Refusal) (g : Graph) (o : Outcomeᵍ) → Closed g → Ends o → Ends (refuseᵍ b k g o)
+unfolding refuseᵍ
+refuse-ends true k g o c e = ends c
+refuse-ends false k g o c e = e
+
+-- a traced object's fields name objects of the graph
+traced-under : (g : Graph) (i : ℕ) (vs : List Value) → Closed g → nth g i ≡ traced vs → (f : ℕ) → Under (length (g .objects)) (getD vs f (plain null))
+traced-under g i vs c e = subst (UnderAll (length (g .objects))) e (c .fields i)
+
+kind-ends : (b : Object) (t : List Value → Outcomeᵍ) (u : List ℕ → Outcomeᵍ) → ((vs : List Value) → b ≡ traced vs → Ends (t vs)) → ((ws : List ℕ) → Ends (u ws)) → Ends (byKind b t u)
+kind-ends (traced vs) t u f h = f vs refl
+kind-ends (untraced ws) t u f h = h ws
+
+object-ends : (g : Graph) (v : Value) (t : ℕ → List Value → Outcomeᵍ) (u : ℕ → List ℕ → Outcomeᵍ) → Closed g
+    → ((i : ℕ) (vs : List Value) → nth g i ≡ traced vs → Ends (t i vs)) → ((i : ℕ) (ws : List ℕ) → Ends (u i ws)) → Ends (onObject g v t u)
+unfolding onObject
+object-ends g (plain p) t u c f h = ends c
+object-ends g (object i) t u c f h = kind-ends (nth g i) (t i) (u i) (f i) (h i)
+
+inspected-ends : (g : Graph) (v : Value) → Closed g → Ends (inspected g v)
+unfolding inspected
+inspected-ends g (plain p) c = ends c
+inspected-ends g (object i) c = kind-ends (nth g i) _ _ (λ vs e. ends c) (λ ws. ends c)
+
+step-ends : (c : Call) (g : Graph) → Closed g → Ends (stepᵍ c g)
+unfolding stepᵍ
+step-ends Ask.Collect g h = ends h
+step-ends Ask.Check g h = ends h
+step-ends (Ask.Allocate k n r) g h = refuse-ends _ Why.Root g _ h (refuse-ends _ Why.Count g _ h (ends (grown-closed g k n r h)))
+step-ends (Ask.SetInteger r v) g h = refuse-ends _ Why.Root g _ h (refuse-ends _ Why.Range g _ h (ends (root-closed g r (plain (integer v)) h tt)))
+step-ends (Ask.SetNull r) g h = refuse-ends _ Why.Root g _ h (ends (root-closed g r (plain null) h tt))
+step-ends (Ask.Copy p q) g h = refuse-ends _ Why.Root g _ h (ends (root-closed g q (rootValue g p) h (h .roots p)))
+step-ends (Ask.Load r f q) g h =
+    refuse-ends _ Why.Root g _ h (object-ends g _ _ _ h
+    (λ i vs e. refuse-ends _ Why.Field g _ h (ends (root-closed g q (getD vs f (plain null)) h (traced-under g i vs h e f)))) (λ i ws. ends h))
+step-ends (Ask.Store r f q) g h =
+    refuse-ends _ Why.Root g _ h (object-ends g _ _ _ h
+    (λ i vs e. refuse-ends _ Why.Field g _ h (ends (object-closed g i (traced (set vs f (rootValue g q))) h
+    (λ k. set-at (Under (length (g .objects))) vs f k (rootValue g q) (plain null) (h .roots q) (traced-under g i vs h e))))) (λ i ws. ends h))
+step-ends (Ask.RawRead r f) g h =
+    refuse-ends _ Why.Root g _ h (object-ends g _ _ _ h (λ i vs e. ends h) (λ i ws. refuse-ends _ Why.Field g _ h (ends h)))
+step-ends (Ask.RawWrite r f n) g h =
+    refuse-ends _ Why.Root g _ h (object-ends g _ _ _ h (λ i vs e. ends h) (λ i ws. refuse-ends _ Why.Field g _ h (ends (object-closed g i (untraced (set ws f n)) h tt))))
+step-ends (Ask.Same p q) g h = refuse-ends _ Why.Root g _ h (ends h)
+step-ends (Ask.Inspect r) g h = refuse-ends _ Why.Root g _ h (inspected-ends g (rootValue g r) h)
+
+step-closed : (c : Call) (g : Graph) → Closed g → Closed (stepᵍ c g .left)
+step-closed c g h = go (stepᵍ c g) (step-ends c g h)
+  where
+    go : (o : Outcomeᵍ) → Ends o → Closed (o .left)
+    go o (ends e) = e
+
+pub after-closed : (cs : List Call) (g : Graph) → Closed g → Closed (afterᵍ cs g)
+unfolding afterᵍ
+after-closed [] g h = h
+after-closed (c ∷ cs) g h = after-closed cs (stepᵍ c g .left) (step-closed c g h)
+
+pub empty-closed : (n : ℕ) → Closed (emptyGraph n)
+empty-closed n = record { roots = λ r. rw (getD-same {A = Value} n r (plain null)) tt; fields = λ i f. tt }
+
+-- so what is reachable is one of its objects
+reach-under : (g : Graph) → Closed g → (i : ℕ) → D3.Reachᵍ g i → i < length (g .objects)
+reach-under g c j (D3.fromRoot r {i} e) = subst (Under (length (g .objects))) e (c .roots r)
+reach-under g c k (D3.fromField f {i} {j} vs r e v) = subst (Under (length (g .objects))) v (traced-under g i vs c e f)
+
+pub session-known : (cs : List Call) (n i : ℕ) → D3.Reachᵍ (afterᵍ cs (emptyGraph n)) i → i < length (afterᵍ cs (emptyGraph n) .objects)
+session-known cs n i r = reach-under (afterᵍ cs (emptyGraph n)) (after-closed cs (emptyGraph n) (empty-closed n)) i r
