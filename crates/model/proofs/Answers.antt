@@ -3,6 +3,7 @@ use Prim.Native.Nat.{ℕ}
 use native.Mathlib.Omega.{arith}
 use mathlib.Core.Path.{_≡_}
 use mathlib.Core.Bool.{Bool, true, false, cond}
+use lib.IntN.{ℤ}
 use Rattle.model.specs.declared.Kind.{Kind}
 use Rattle.model.specs.declared.Refusal.{Refusal}
 use Rattle.model.specs.declared.Answer.{Answer}
@@ -37,6 +38,15 @@ pub pick-plainly : (b : Bool) (k : Refusal) → cond b Says.Yes Says.No ≡ Says
 pick-plainly true k e = let z : _≡_ {A = ℕ} 0 1 = cc in omega arith
 pick-plainly false k e = let z : _≡_ {A = ℕ} 0 1 = cc in omega arith
 
+pub unsound-plainly : Plainly Says.Unsound
+unsound-plainly k e = let z : _≡_ {A = ℕ} 0 1 = cc in omega arith
+
+pub integer-plainly : (v : ℤ) → Plainly (Says.Integer v)
+integer-plainly v k e = let z : _≡_ {A = ℕ} 0 1 = cc in omega arith
+
+pub null-plainly : Plainly Says.Null
+null-plainly k e = let z : _≡_ {A = ℕ} 0 1 = cc in omega arith
+
 pub plain-plainly : (p : Plain) → Plainly (plainAnswer p)
-plain-plainly (integer v) k e = let z : _≡_ {A = ℕ} 0 1 = cc in omega arith
-plain-plainly null k e = let z : _≡_ {A = ℕ} 0 1 = cc in omega arith
+plain-plainly (integer v) = integer-plainly v
+plain-plainly null = null-plainly

@@ -40,3 +40,7 @@ pub mod KeepSound
 pub mod Session
 pub mod Start
 pub mod Demand3
+pub mod Rows
+pub mod Conditions
+pub mod Judged
+pub mod Demand1
