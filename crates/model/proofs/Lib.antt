@@ -44,3 +44,5 @@ pub mod Rows
 pub mod Conditions
 pub mod Judged
 pub mod Demand1
+pub mod Laws
+pub mod Rivals

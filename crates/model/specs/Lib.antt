@@ -22,3 +22,4 @@ pub mod Refusals
 pub mod Demand1
 pub mod Demand2
 pub mod Demand3
+pub mod Laws

@@ -1,0 +1,143 @@
+-- Further laws: the window, integers and headers, lengths, and that a promise settles everything. Assumes nothing.
+use Prim.Native.Nat.{ℕ, _+_, _-_, _/_, _%_, _≤_, _<_}
+use native.Mathlib.Omega.{arith}
+use mathlib.Core.Path.{_≡_, refl, sym, ap, _∙_}
+use mathlib.Core.Logic.{⊎-elim}
+use mathlib.Core.Bool.{true, false, _&&_}
+use lib.Dec.{ltb, leb, eqb}
+use lib.ListN.{length, take, drop, length-take, length-drop, length-replicate}
+use lib.Seq.{getD-take, getD-drop}
+use borrow.Author.Tests.{ltb-true, ltb-false, leb-true, le-leb, lt-leb}
+use Rattle.model.specs.declared.Kind.{Kind}
+use Rattle.model.specs.declared.Kind.the-variants.{Traced, Untraced}
+use Rattle.model.specs.declared.Refusal.{Refusal}
+use Rattle.model.specs.declared.Place.{Place}
+use Rattle.model.specs.declared.Index.{Index}
+use Rattle.model.specs.declared.Refusal.the-variants as Why
+use Rattle.model.specs.declared.Place.the-variants as Place
+use Rattle.model.specs.Answers.{outcome, refuse}
+use Rattle.model.specs.Calls.{fresh}
+use Rattle.model.specs.Changes.{noRoot, rootWord, fits}
+use Rattle.model.specs.Graph.{object, Object}
+use Rattle.model.specs.Headers.{Layout, tuple}
+use Rattle.model.specs.Laws as Law
+use Rattle.model.specs.Limits.{maxFields, maxInteger}
+use Rattle.model.specs.Objects.{index, fieldCount, size, names}
+use Rattle.model.specs.Sessions.{machine}
+use Rattle.model.specs.Shape.{badLength, badShape}
+use Rattle.model.specs.Values.{isAddress, inRange, untag}
+use Rattle.model.specs.Window.{window, windowWord}
+use Rattle.model.specs.Words.{State, at, firstWord, free}
+use Rattle.model.proofs.Headers.{tuple-lawful}
+use Rattle.model.proofs.Integers.{tag-is-odd, tag-word, untag-tag, tag-untag, tag-modulo}
+use Rattle.model.proofs.Lengths.{step-lengths}
+use Rattle.model.proofs.Shape.{shaped, first-in}
+use Rattle.model.proofs.Tests.{by-test, and-both}
+
+-- ---- the window
+
+-- an object that is named ends at or before the free index
+named-within : (Y : Layout) (s : State) (w : ℕ) → names Y s w ≡ true → index Y w + size Y (s .heap) (index Y w) ≤ free s
+unfolding names
+named-within Y s w e =
+    let before = isAddress w && eqb (w % 4) 0 && leb (firstWord s) (index Y w) && ltb (index Y w) (free s) && Y .isHeader (at (s .heap) (index Y w)) in
+    leb-true (index Y w + size Y (s .heap) (index Y w)) (free s) (and-both before (leb (index Y w + size Y (s .heap) (index Y w)) (free s)) e .1)
+
+object-at : (i j : Index) (n m : ℕ) → Place.Object i n ≡ Place.Object j m → (i ≡ j) × (n ≡ m)
+object-at i j n m e = (cc, cc)
+
+refused-object : (k : Refusal) (i : Index) (n : ℕ) → Place.Refused k ≡ Place.Object i n → ⊥
+refused-object k i n e = let z : _≡_ {A = ℕ} 0 1 = cc in omega arith
+
+-- a window that is open is on an object that is named, in a heap of good shape
+window-open : (Y : Layout) (r : ℕ) (s : State) (i : Index) (n : ℕ) → window Y r s ≡ Place.Object i n
+    → (badShape s ≡ false) × (names Y s (rootWord s r) ≡ true) × (record { 0 = index Y (rootWord s r) } ≡ i) × (fieldCount Y (s .heap) (index Y (rootWord s r)) ≡ n)
+unfolding window
+window-open Y r s i n e =
+    ⊎-elim
+    (λ (a : badShape s ≡ true). absurd (refused-object Why.Shape i n (rw a at e)))
+    (λ (a : badShape s ≡ false).
+    ⊎-elim
+    (λ (b : noRoot s r ≡ true). absurd (refused-object Why.Root i n (rw (a, b) at e)))
+    (λ (b : noRoot s r ≡ false).
+    ⊎-elim
+    (λ (c : names Y s (rootWord s r) ≡ true).
+    let o = object-at (record { 0 = index Y (rootWord s r) }) i (fieldCount Y (s .heap) (index Y (rootWord s r))) n (rw (a, b, c) at e) in
+    (a, c, o .0, o .1))
+    (λ (c : names Y s (rootWord s r) ≡ false). absurd (refused-object Why.Object i n (rw (a, b, c) at e)))
+    (by-test (names Y s (rootWord s r))))
+    (by-test (noRoot s r)))
+    (by-test (badShape s))
+
+shows : (Y : Layout) (r : ℕ) (s : State) (i : Index) (n : ℕ) → window Y r s ≡ Place.Object i n → Law.Shows Y s r i n
+unfolding windowWord
+shows Y r s i n e =
+    let o = window-open Y r s i n e in
+    let h = shaped s (o .0) in
+    let at-i : index Y (rootWord s r) ≡ i .0 = ap (λ z. z .0) (o .2) in
+    let w = named-within Y s (rootWord s r) (o .1) in
+    let b = first-in s h in
+    let long : i .0 + 1 + n ≤ length (s .heap) = omega (arith, o .3, h .high) in
+    let len : length (take n (drop (i .0 + 1) (s .heap))) ≡ n = let x = length-take n (drop (i .0 + 1) (s .heap)) in let y = length-drop (i .0 + 1) (s .heap) in omega arith in
+    record {
+      object = sym at-i;
+      fields = sym (o .3) ∙ ap (fieldCount Y (s .heap)) at-i;
+      words = len;
+      count = refl;
+      word = λ f l. rw (lt-leb n f l, getD-take n (drop (i .0 + 1) (s .heap)) f 0 l, getD-drop (i .0 + 1) (s .heap) f 0);
+      past = λ f l. rw (le-leb n f l);
+    }
+
+hides : (s : State) (k : Refusal) → Law.Hides s k
+unfolding windowWord
+hides s k = record { words = refl; count = refl; word = λ f. rw (le-leb 0 f (omega arith)) }
+
+pub window-law : (Y : Layout) → Law.WindowLaw Y
+window-law Y = record { shows = shows Y; hides = hides }
+
+-- ---- words
+
+untag-range : (w : ℕ) → w < 4294967296 → inRange (untag w) ≡ true
+unfolding untag
+untag-range w l =
+    ⊎-elim
+    (λ (e : ltb w 2147483648 ≡ true). let g = ltb-true w 2147483648 e in rw e (le-leb (w / 2) maxInteger (omega arith)))
+    (λ (e : ltb w 2147483648 ≡ false). let g = ltb-false w 2147483648 e in rw e (le-leb ((4294967295 - w) / 2) maxInteger (omega arith)))
+    (by-test (ltb w 2147483648))
+
+pub integer-law : Law.IntegerLaw
+integer-law = record { odd = tag-is-odd; fits = tag-word; modulo = tag-modulo; back = untag-tag; held = λ w l o. (untag-range w l, tag-untag w l o) }
+
+header-fits : (k : Kind) (n : ℕ) → n ≤ maxFields → tuple .header k n < 4294967296
+unfolding tuple
+header-fits Traced n l = omega arith
+header-fits Untraced n l = omega arith
+
+pub header-law : Law.HeaderLaw
+header-law = record { reads = tuple-lawful; fits = header-fits }
+
+-- ---- calls
+
+fresh-lengths : (s : State) → (length (fresh s .left .heap) ≡ length (s .heap)) × (fresh s .left .roots ≡ s .roots)
+unfolding fresh refuse
+fresh-lengths s =
+    ⊎-elim
+    (λ (e : badLength (length (s .heap)) ≡ true). rw e (refl, refl))
+    (λ (e : badLength (length (s .heap)) ≡ false). rw e (length-replicate (length (s .heap)) 0, refl))
+    (by-test (badLength (length (s .heap))))
+
+pub keeps-lengths : (Y : Layout) → Law.KeepsLengths (machine Y)
+keeps-lengths Y = record {
+  heap = λ c s. step-lengths Y c s .0;
+  roots = λ c s. step-lengths Y c s .1;
+  freshHeap = λ s. fresh-lengths s .0;
+  freshRoots = λ s. fresh-lengths s .1;
+}
+
+pub settles : Law.Settles
+settles o a b H H′ R R′ e f =
+    let g : outcome a H R ≡ outcome b H′ R′ = e ∙ sym f in (
+      λ i. record { answer = ap (λ z. z .answer) g i; «record» = ap (λ z. z .left .«record») g i },
+      ap (λ z. z .left .heap) g,
+      ap (λ z. z .left .roots) g,
+    )

@@ -1,0 +1,73 @@
+-- Further laws, as types: what a window shows, integers and headers written and read back, lengths, and that a promise
+-- settles everything.
+use Prim.Native.Nat.{ℕ, _+_, _*_, _%_, _≤_, _<_}
+use mathlib.Core.Path.{_≡_}
+use mathlib.Core.Bool.{true}
+use mathlib.Core.List.{List, []}
+use lib.ListN.{length}
+use lib.IntN.{ℤ, pos, _+ℤ_, _*ℤ_}
+use Rattle.model.specs.declared.Index.{Index}
+use Rattle.model.specs.declared.Kind.{Kind}
+use Rattle.model.specs.declared.Refusal.{Refusal}
+use Rattle.model.specs.declared.Refusal.the-variants as Why
+use Rattle.model.specs.declared.Answer.the-variants as Says
+use Rattle.model.specs.declared.Answered.{Answered}
+use Rattle.model.specs.declared.Call.{Call}
+use Rattle.model.specs.declared.Place.the-variants as Place
+use Rattle.model.specs.Limits.{maxFields}
+use Rattle.model.specs.Words.{State, at}
+use Rattle.model.specs.Values.{isOdd, inRange, tag, untag}
+use Rattle.model.specs.Headers.{Layout, Lawful, tuple}
+use Rattle.model.specs.Objects.{index, fieldCount, fieldIndex}
+use Rattle.model.specs.Answers.{Outcome, outcome}
+use Rattle.model.specs.Changes.{rootWord}
+use Rattle.model.specs.Window.{window, shown, windowCount, windowWord}
+use Rattle.model.specs.Sessions.{Machine}
+
+-- ---- the window
+
+-- on the object at i with n fields it shows exactly the n words after the header, as that part of the heap
+pub record Shows (Y : Layout) (s : State) (r : ℕ) (i : Index) (n : ℕ) : Type 0 where
+  pub object : i .0 ≡ index Y (rootWord s r)
+  pub fields : n ≡ fieldCount Y (s .heap) (i .0)
+  pub words : length (shown (s .heap) (Place.Object i n)) ≡ n
+  pub count : windowCount (Place.Object i n) ≡ n
+  pub word : (f : ℕ) → f < n → windowWord (s .heap) (Place.Object i n) f ≡ Says.Number (at (s .heap) (fieldIndex (i .0) f))
+  pub past : (f : ℕ) → n ≤ f → windowWord (s .heap) (Place.Object i n) f ≡ Says.Refused Why.Field
+
+-- refused, it shows no words
+pub record Hides (s : State) (k : Refusal) : Type 0 where
+  pub words : shown (s .heap) (Place.Refused k) ≡ []
+  pub count : windowCount (Place.Refused k) ≡ 0
+  pub word : (f : ℕ) → windowWord (s .heap) (Place.Refused k) f ≡ Says.Refused Why.Field
+
+pub record WindowLaw (Y : Layout) : Type 0 where
+  pub shows : (r : ℕ) (s : State) (i : Index) (n : ℕ) → window Y r s ≡ Place.Object i n → Shows Y s r i n
+  pub hides : (s : State) (k : Refusal) → Hides s k
+
+-- ---- words
+
+pub record IntegerLaw : Type 0 where
+  -- the word of an integer in range is odd, 2v + 1 modulo 2 ^ 32, and holds it
+  pub odd : (v : ℤ) → inRange v ≡ true → isOdd (tag v) ≡ true
+  pub fits : (v : ℤ) → inRange v ≡ true → tag v < 4_294_967_296
+  pub modulo : (v : ℤ) → inRange v ≡ true → (m : ℕ) × (pos (tag v) ≡ pos 2 *ℤ v +ℤ pos 1 +ℤ pos (4_294_967_296 * m))
+  pub back : (v : ℤ) → inRange v ≡ true → untag (tag v) ≡ v
+  -- and every odd word is that of an integer in range
+  pub held : (w : ℕ) → w < 4_294_967_296 → w % 2 ≡ 1 → (inRange (untag w) ≡ true) × (tag (untag w) ≡ w)
+
+pub record HeaderLaw : Type 0 where
+  pub reads : Lawful tuple
+  pub fits : (k : Kind) (n : ℕ) → n ≤ maxFields → tuple .header k n < 4_294_967_296
+
+-- ---- calls
+
+pub record KeepsLengths (M : Machine) : Type 0 where
+  pub heap : (c : Call) (s : State) → length (M .step c s .left .heap) ≡ length (s .heap)
+  pub roots : (c : Call) (s : State) → length (M .step c s .left .roots) ≡ length (s .roots)
+  pub freshHeap : (s : State) → length (M .fresh s .left .heap) ≡ length (s .heap)
+  pub freshRoots : (s : State) → M .fresh s .left .roots ≡ s .roots
+
+-- a promise is an equation `outcome .. ≡ o`: any two outcomes that it allows have equal answers, records, words and roots
+abbrev pub Settles : Type 0
+Settles = (o : Outcome) (a b : Answered) (H H′ R R′ : List ℕ) → outcome a H R ≡ o → outcome b H′ R′ ≡ o → (a ≡ b) × (H ≡ H′) × (R ≡ R′)
