@@ -16,6 +16,7 @@ use Rattle.model.specs.Headers.{Layout}
 use Rattle.model.specs.Sessions.{step, machine, answers}
 use Rattle.model.specs.Soundness.{sound}
 use Rattle.model.specs.Words.{State, at, halfWords, otherFirst}
+use Rattle.model.proofs.Breadth.{breadth}
 use Rattle.model.proofs.Collected.{live-is, new-length, new-first, new-half, new-free, order-tile, new-header, new-field, new-root, new-roots}
 use Rattle.model.proofs.CollectedSound.{new-tiled, becomes, reach-order, order-reach, traced-field, new-sound}
 use Rattle.model.proofs.Copies.{wordsBefore-nth}
@@ -23,7 +24,7 @@ use Rattle.model.proofs.Discovery.{Reach, root}
 use Rattle.model.proofs.Meetings.{met, only}
 use Rattle.model.proofs.Members.{In, in-tail, in-self, in-take, distinct-once, mem-in, in-mem}
 use Rattle.model.proofs.Objects.{cells-length}
-use Rattle.model.proofs.Order.{orderAt-distinct, order-fits, reach-reached}
+use Rattle.model.proofs.Order.{orderAt-distinct, order-fits, reach-reached, order-breadth}
 use Rattle.model.proofs.Packed.{wordsBefore-apart}
 use Rattle.model.proofs.Shape.{unshaped}
 use Rattle.model.proofs.Soundness.{Sound, sound-parts, sound-whole, sound-zero}
@@ -57,6 +58,7 @@ module _ (Y : Layout) (s : State) (h : Sound Y s) where
     once = distinct-once (order Y s) (orderAt-distinct Y s h (halfWords (s .heap)));
     met = order-met;
     only = order-only;
+    breadth = order-breadth Y s h;
     copies = new-tiled Y s h .1;
     packs = λ k l.
         ap (λ x. otherFirst s + x)

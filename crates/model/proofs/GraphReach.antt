@@ -40,7 +40,7 @@ module _ (g : Graph) where
       let c = cell-value (nth g i) k j e in
       D3.fromField (c .2 .0) (c .0) (reached-reach i r) (c .1) (c .2 .1)
 
-  pub reach-reached : (i : ℕ) → D3.Reachᵍ g i → Reachedᵍ i
+  reach-reached : (i : ℕ) → D3.Reachᵍ g i → Reachedᵍ i
   reach-reached j (D3.fromRoot r {i} e) = root r (List·getD-map valueLeads (g .roots) r (plain null) ∙ ap valueLeads e)
   reach-reached k (D3.fromField f {i} {j} vs r e v) =
       cell (suc f) (reach-reached i r) (ap (λ b. getD (objectCells b) (suc f) none) e ∙ List·getD-map valueLeads vs f (plain null) ∙ ap valueLeads v)

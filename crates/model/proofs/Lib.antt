@@ -7,6 +7,7 @@ pub mod Visits
 pub mod Packed
 pub mod Discovery
 pub mod Meetings
+pub mod Breadth
 pub mod Alike
 pub mod Shape
 pub mod Objects

@@ -18,6 +18,7 @@ use Rattle.model.specs.Objects.{index, size}
 use Rattle.model.specs.Soundness.{headers}
 use Rattle.model.specs.Values.{isAddress}
 use Rattle.model.specs.Words.{State, at, halfWords, firstWord, free}
+use Rattle.model.proofs.Breadth.{Near, near-root, near-cell, breadth}
 use Rattle.model.proofs.Discovery.{Reach, root, cell, found-distinct, found-reach, reach-found}
 use Rattle.model.proofs.Lists.{getD-map}
 use Rattle.model.proofs.Members.{In, Distinct}
@@ -108,3 +109,34 @@ module _ (Y : Layout) (s : State) (h : Sound Y s) where
       let m = reach-reached i r in
       let t = header-tile i (reached-header i m) in
       cell (suc f) m (field-leads Y (s .heap) i f (omega (arith, free-in)) k l p)
+
+  -- at most d cells away is at most d fields away, and back
+  abbrev pub Nearby : ℕ → ℕ → Type 0
+  Nearby = Near (cells Y (s .heap)) (still 0) (cellLeads Y) (map (wordLeads Y) (s .roots))
+
+  nearby-reached : (d j : ℕ) → Nearby d j → Reached j
+  nearby-reached d j (near-root k d′ e) = root k e
+  nearby-reached d j (near-cell k d′ {i} n e) = cell k (nearby-reached d′ i n) e
+
+  pub nearby-near : (d j : ℕ) → Nearby d j → D.Near Y s d j
+  nearby-near d j (near-root k d′ e) =
+      let p = root-leads k j e in
+      subst (D.Near Y s d′) (p .2) (D.byRoot k d′ (p .0) (p .1))
+  nearby-near d j (near-cell k d′ {i} n e) =
+      let t = header-tile i (reached-header i (nearby-reached d′ i n)) in
+      let c = cell-leads Y (s .heap) i k j (omega (arith, free-in)) e in
+      subst (D.Near Y s (suc d′)) (c .to) (D.byField i (c .field) d′ (nearby-near d′ i n) (c .traced) (c .under) (c .pointer))
+
+  near-nearby : (d j : ℕ) → D.Near Y s d j → Nearby d j
+  near-nearby d j (D.byRoot r d′ l p) = near-root r d′ (getD-map (wordLeads Y) (s .roots) r 0 none l ∙ address-leads Y (at (s .roots) r) p)
+  near-nearby d j (D.byField i f d′ n k l p) =
+      let m = near-nearby d′ i n in
+      let t = header-tile i (reached-header i (nearby-reached d′ i m)) in
+      near-cell (suc f) d′ m (field-leads Y (s .heap) i f (omega (arith, free-in)) k l p)
+
+  pub order-breadth : (k l d : ℕ) → k ≤ l → l < length (order Y s) → D.Near Y s d (getD (order Y s) l 0) → D.Near Y s d (getD (order Y s) k 0)
+  unfolding orderAt
+  order-breadth k l d a b n =
+      nearby-near d (getD (order Y s) k 0)
+      (breadth (cells Y (s .heap)) (still 0) (cellLeads Y) (map (wordLeads Y) (s .roots)) refl (halfWords (s .heap)) order-fits d k l (getD (order Y s) l 0) a b refl
+      (near-nearby d (getD (order Y s) l 0) n))

@@ -1,6 +1,6 @@
 -- Demand 2: a collection keeps exactly one copy of each reachable object and of nothing else; fields and sharing agree; the
 -- copies are packed in the order in which they are met; the answer is the words of the reachable objects.
-use Prim.Native.Nat.{ℕ, _+_, _≤_, _<_}
+use Prim.Native.Nat.{ℕ, suc, _+_, _≤_, _<_}
 use mathlib.Core.Path.{_≡_}
 use mathlib.Core.Logic.{_⊎_}
 use mathlib.Core.Bool.{true, false}
@@ -30,6 +30,12 @@ module _ (Y : Layout) where
     fromField : (i f : ℕ) → Reach s i → kind Y (s .heap) i ≡ Traced → f < fieldCount Y (s .heap) i
         → isAddress (at (s .heap) (fieldIndex i f)) ≡ true → Reach s (index Y (at (s .heap) (fieldIndex i f)))
 
+  -- at most d fields away from a root
+  pub data Near (s : State) : ℕ → ℕ → Type 0 where
+    byRoot : (r d : ℕ) → r < length (s .roots) → isAddress (rootWord s r) ≡ true → Near s d (index Y (rootWord s r))
+    byField : (i f d : ℕ) → Near s d i → kind Y (s .heap) i ≡ Traced → f < fieldCount Y (s .heap) i
+        → isAddress (at (s .heap) (fieldIndex i f)) ≡ true → Near s (suc d) (index Y (at (s .heap) (fieldIndex i f)))
+
   -- the sum of n + 1
   abbrev pub sizes : List ℕ → List ℕ → ℕ
   sizes H [] = 0
@@ -58,6 +64,8 @@ module _ (Y : Layout) where
     -- it is the first meetings, and no other list of reachable objects is
     pub met : FirstMeetings s (order Y s)
     pub only : (o : List ℕ) → FirstMeetings s o → ((i : ℕ) → List·Memᴰ i o → Reach s i) → o ≡ order Y s
+    -- it is breadth-first: what stands earlier is no farther from the roots
+    pub breadth : (k l d : ℕ) → k ≤ l → l < length (order Y s) → Near s d (getD (order Y s) l 0) → Near s d (getD (order Y s) k 0)
     -- the objects of the new half are exactly their copies, packed in that order
     pub copies : headers Y s′ ≡ map (copyIndex s) (order Y s)
     pub packs : (k : ℕ) → k < length (order Y s)
