@@ -27,7 +27,7 @@ use Rattle.model.specs.Sessions.{step, machine}
 use Rattle.model.specs.Shape.{badLength, badShape}
 use Rattle.model.specs.Window.{window}
 use Rattle.model.specs.Words.{State, at}
-use Rattle.model.proofs.Answers.{refused-same, done-plainly}
+use Rattle.model.proofs.PlainAnswers.{refused-same, done-plainly}
 use Rattle.model.proofs.Conditions.{length-decides, shape-decides, root-decides, object-decides}
 use Rattle.model.proofs.Demand2.{collects}
 use Rattle.model.proofs.Judged.{Left, unchanged, recollected, Judged, by-row, by-none, judged-refuse, judged-says, step-judged}

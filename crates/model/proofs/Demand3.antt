@@ -13,8 +13,8 @@ use Rattle.model.specs.GraphCalls.{afterᵍ}
 use Rattle.model.specs.Headers.{Layout, Lawful, tuple}
 use Rattle.model.specs.Sessions.{machine, after}
 use Rattle.model.specs.Words.{halfWords}
-use Rattle.model.proofs.AllocateCall.{allocate-room}
-use Rattle.model.proofs.CollectCall.{live-same}
+use Rattle.model.proofs.CallAllocate.{allocate-room}
+use Rattle.model.proofs.CallCollect.{live-same}
 use Rattle.model.proofs.GraphClosed.{session-known}
 use Rattle.model.proofs.GraphReach.{lists-whole, live-listed}
 use Rattle.model.proofs.Headers.{tuple-lawful}

@@ -15,7 +15,7 @@ use Rattle.model.specs.Objects.{address, index}
 use Rattle.model.specs.Soundness.{headers}
 use Rattle.model.specs.Values.{isAddress}
 use Rattle.model.specs.Words.{State, at, halfWords, other, otherFirst, free}
-use Rattle.model.proofs.Alike.{found-settled}
+use Rattle.model.proofs.DiscoveryAlike.{found-settled}
 use Rattle.model.proofs.Collected.{new-at, new-rest}
 use Rattle.model.proofs.Discovery.{found-later}
 use Rattle.model.proofs.Members.{In}

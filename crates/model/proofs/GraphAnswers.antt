@@ -14,7 +14,7 @@ use Rattle.model.specs.declared.Call.the-variants as Ask
 use Rattle.model.specs.Demand3 as D3
 use Rattle.model.specs.Graph.{Value, plain, object, Object, traced, untraced, Graph, nth, rootValue, liveᵍ}
 use Rattle.model.specs.GraphCalls.{Outcomeᵍ, saysᵍ, refuseᵍ, sameValue, byKind, onObject, wrongKind, plainAnswer, inspected, stepᵍ}
-use Rattle.model.proofs.Answers.{refused-same, Plainly, done-plainly, live-plainly, sound-plainly, number-plainly, object-plainly, pick-plainly, plain-plainly}
+use Rattle.model.proofs.PlainAnswers.{refused-same, Plainly, done-plainly, live-plainly, sound-plainly, number-plainly, object-plainly, pick-plainly, plain-plainly}
 use Rattle.model.proofs.Tests.{never}
 
 -- the refusals that a graph can give

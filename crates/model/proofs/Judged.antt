@@ -30,7 +30,7 @@ use Rattle.model.specs.Shape.{badShape}
 use Rattle.model.specs.Soundness.{sound}
 use Rattle.model.specs.Values.{isOdd, isNull, isAddress}
 use Rattle.model.specs.Words.{State}
-use Rattle.model.proofs.Answers.{Plainly, done-plainly, live-plainly, sound-plainly, number-plainly, object-plainly, pick-plainly, unsound-plainly, integer-plainly, null-plainly}
+use Rattle.model.proofs.PlainAnswers.{Plainly, done-plainly, live-plainly, sound-plainly, number-plainly, object-plainly, pick-plainly, unsound-plainly, integer-plainly, null-plainly}
 use Rattle.model.proofs.Conditions.{shape-decides, no-roots, root-decides, roots-decide, count-decides, range-decides, object-decides, value-decides, kind-decides, field-decides, unsound-decides, called, uncalled, damaged-decides, room-decides}
 use Rattle.model.proofs.Rows.{Decides}
 use Rattle.model.proofs.Soundness.{Sound}

@@ -1,3 +1,4 @@
+pub mod AtP5
 pub mod Tests
 pub mod Members
 pub mod Lists
@@ -8,7 +9,7 @@ pub mod Packed
 pub mod Discovery
 pub mod Meetings
 pub mod Breadth
-pub mod Alike
+pub mod DiscoveryAlike
 pub mod Shape
 pub mod Objects
 pub mod Tiling
@@ -24,16 +25,16 @@ pub mod Demand2
 pub mod Keeping
 pub mod Placing
 pub mod Represents
-pub mod RootCalls
-pub mod FieldCalls
+pub mod CallsOnRoots
+pub mod CallsOnFields
 pub mod GraphWords
-pub mod CollectCall
-pub mod PlaceCall
-pub mod AllocateCall
+pub mod CallCollect
+pub mod CallPlace
+pub mod CallAllocate
 pub mod Stage
 pub mod During
 pub mod Lengths
-pub mod Answers
+pub mod PlainAnswers
 pub mod GraphAnswers
 pub mod GraphReach
 pub mod GraphClosed

@@ -151,7 +151,7 @@ module _ {C : Type 0} (cells : ℕ → List C) where
       (λ (e : eqb i x ≡ true). rw (e, length-append, eqb-true i x e))
       (λ (e : eqb i x ≡ false).
       let ih = packed-remove i xs (in-other i x xs h e) in
-      rw (e, length-append, length-append) (omega arith))
+      simp (e, length-append) (omega arith))
       (by-test (eqb i x))
 
   -- a list of distinct nodes of another packs no more cells than it

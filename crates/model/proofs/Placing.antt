@@ -2,7 +2,7 @@
 use Prim.Native.Nat.{ℕ, suc, _+_, _*_, _-_, _/_, _%_, _≤_, _<_}
 use native.Mathlib.Omega.{arith}
 use native.Mathlib.Nat.{add-zero}
-use mathlib.Core.Path.{_≡_, refl, sym, ap, _∙_}
+use mathlib.Core.Path.{_≡_, refl, sym, ap, _∙_, subst}
 use mathlib.Core.Logic.{⊎-elim}
 use mathlib.Core.Bool.{true, not, _&&_}
 use mathlib.Core.List.{List, [], _∷_, _++_}
@@ -82,6 +82,9 @@ module _ (Y : Layout) (law : Lawful Y) (s : State) (h : Sound Y s) (k : Kind) (n
   unfolding placed
   place-header = ap (λ x. at (sets (s .heap) (free s) vs) x) (sym (add-zero (free s))) ∙ sets-in (s .heap) (free s) vs 0 in-heap (omega (arith, vs-length))
 
+  place-zero : (f : ℕ) → f < n → at (sets (s .heap) (free s) vs) (free s + suc f) ≡ 0
+  place-zero f l = sets-in (s .heap) (free s) vs (suc f) in-heap (omega (arith, vs-length)) ∙ getD-replicate n f 0 0 l
+
   -- no other word changes
   pub place-other : (j : ℕ) → (j ≡ free s → ⊥) → at (s⁺ .heap) j ≡ at (s .heap) j
   unfolding placed
@@ -92,9 +95,7 @@ module _ (Y : Layout) (law : Lawful Y) (s : State) (h : Sound Y s) (k : Kind) (n
       ⊎-elim
       (λ (m : j < free s + length vs).
       let e : free s + suc (j - free s - 1) ≡ j = omega arith in
-      ap (λ x. at (sets (s .heap) (free s) vs) x) (sym e)
-      ∙ sets-in (s .heap) (free s) vs (suc (j - free s - 1)) in-heap (omega arith)
-      ∙ getD-replicate n (j - free s - 1) 0 0 (let z : length {A = ℕ} (replicate n 0) ≡ n = length-replicate n 0 in omega arith)
+      subst (λ x. at (sets (s .heap) (free s) vs) x ≡ 0) e (place-zero (j - free s - 1) (omega (arith, vs-length)))
       ∙ sym (h .rest j l (omega (arith, fits, vs-length))))
       (λ (m : free s + length vs ≤ j). sets-past (s .heap) (free s) vs j m)
       (decide j (free s + length vs)))

@@ -31,7 +31,7 @@ use Rattle.model.specs.Shape.{badShapeOf, badShape}
 use Rattle.model.specs.Soundness.{headersFrom, sound}
 use Rattle.model.specs.Words.{State, lent, halfWords, firstOf, free}
 use Rattle.model.specs.Worked as Worked
-use Rattle.model.proofs.Answers.{done-plainly}
+use Rattle.model.proofs.PlainAnswers.{done-plainly}
 use Rattle.model.proofs.Conditions.{shape-decides, no-roots}
 use Rattle.model.proofs.Shape.{Shaped, unshaped}
 

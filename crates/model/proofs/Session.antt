@@ -22,14 +22,14 @@ use Rattle.model.specs.Headers.{Layout, Lawful}
 use Rattle.model.specs.Objects.{kind}
 use Rattle.model.specs.Sessions.{step, machine, answers, after}
 use Rattle.model.specs.Words.{State, halfWords}
-use Rattle.model.proofs.AllocateCall.{allocate-room, Full, allocate-agrees}
-use Rattle.model.proofs.Answers.{refused-same}
-use Rattle.model.proofs.CollectCall.{live-same, collect-agrees}
-use Rattle.model.proofs.FieldCalls.{load-agrees, store-agrees, rawRead-agrees, rawWrite-agrees}
+use Rattle.model.proofs.CallAllocate.{allocate-room, Full, allocate-agrees}
+use Rattle.model.proofs.PlainAnswers.{refused-same}
+use Rattle.model.proofs.CallCollect.{live-same, collect-agrees}
+use Rattle.model.proofs.CallsOnFields.{load-agrees, store-agrees, rawRead-agrees, rawWrite-agrees}
 use Rattle.model.proofs.GraphAnswers.{ofGraph, graph-refuses, graph-room}
 use Rattle.model.proofs.Lengths.{step-lengths}
 use Rattle.model.proofs.Represents.{Represents, Agrees}
-use Rattle.model.proofs.RootCalls.{check-agrees, setInteger-agrees, setNull-agrees, copy-agrees, same-agrees, inspect-agrees}
+use Rattle.model.proofs.CallsOnRoots.{check-agrees, setInteger-agrees, setNull-agrees, copy-agrees, same-agrees, inspect-agrees}
 use Rattle.model.proofs.Soundness.{Sound}
 use Rattle.model.proofs.Tests.{by-test, never}
 

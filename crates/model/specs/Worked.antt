@@ -110,16 +110,21 @@ cases =
     ∷ case (state A 7 p5 (24 ∷ 12 ∷ [])) (Ask.RawRead 1 9 ∷ Ask.Load 1 9 0 ∷ []) (refused 6 ∷ refused 7 ∷ []) (state A 7 p5 (24 ∷ 12 ∷ []))
     ∷ []
 
--- what the calls come to
-abbrev pub ran : Case → Case
+-- the answers and what is left, as they should be and as they come
+pub record Result : Type 0 where
+  pub answered : List Told
+  pub left : State
+
+abbrev pub expected : Case → Result
+expected c = record { answered = c .answered; left = c .left }
+
+abbrev pub ran : Case → Result
 ran c = record {
-  start = c .start;
-  calls = c .calls;
   answered = map told (answers (machine tuple) (c .calls) (c .start));
   left = after (machine tuple) (c .calls) (c .start);
 }
 
-pub worked : map ran cases ≡ cases
+pub worked : map ran cases ≡ map expected cases
 unfolding tuple refuse step answers after untag badShapeOf names mem tiles headersFrom isValue fieldsAreValues sound visit visits packed wordsBefore found wordLeads orderAt live rename copied placed check collect allocate setInteger setNull copy load store rawRead rawWrite same inspect
 worked = refl
 

@@ -19,7 +19,7 @@ use Rattle.model.specs.Objects.{address, index, kind, fieldCount, size, 
 use Rattle.model.specs.Sessions.{step}
 use Rattle.model.specs.Values.{isAddress}
 use Rattle.model.specs.Words.{State, at, halfWords}
-use Rattle.model.proofs.Alike.{Along, Inside, packed-sizes, found-along, found-settled}
+use Rattle.model.proofs.DiscoveryAlike.{Along, Inside, packed-sizes, found-along, found-settled}
 use Rattle.model.proofs.Collected.{live-is}
 use Rattle.model.proofs.CollectedSound.{new-sound}
 use Rattle.model.proofs.Demand2.{collects}

@@ -21,11 +21,11 @@ use Rattle.model.specs.Headers.{Layout, Lawful}
 use Rattle.model.specs.Limits.{maxFields}
 use Rattle.model.specs.Sessions.{step}
 use Rattle.model.specs.Words.{State, halfWords}
-use Rattle.model.proofs.Answers.{done-plainly}
-use Rattle.model.proofs.CollectCall.{collect-represents}
+use Rattle.model.proofs.PlainAnswers.{done-plainly}
+use Rattle.model.proofs.CallCollect.{collect-represents}
 use Rattle.model.proofs.Collected.{live-is, new-room, new-first, new-free}
 use Rattle.model.proofs.Order.{orderAt-fits, order-fits}
-use Rattle.model.proofs.PlaceCall.{place-represents}
+use Rattle.model.proofs.CallPlace.{place-represents}
 use Rattle.model.proofs.Represents.{Represents, Agrees}
 use Rattle.model.proofs.Shape.{unshaped}
 use Rattle.model.proofs.Soundness.{Sound, sound-whole}

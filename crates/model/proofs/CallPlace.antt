@@ -19,7 +19,7 @@ use Rattle.model.specs.Limits.{maxFields}
 use Rattle.model.specs.Objects.{address, size}
 use Rattle.model.specs.Soundness.{headers}
 use Rattle.model.specs.Words.{State, at, free}
-use Rattle.model.proofs.FieldCalls.{holds-kept}
+use Rattle.model.proofs.CallsOnFields.{holds-kept}
 use Rattle.model.proofs.Keeping.{tile}
 use Rattle.model.proofs.Members.{In, in-append-left, in-snoc, in-last}
 use Rattle.model.proofs.Placing.{place-header, place-other, place-headers, place-sound}

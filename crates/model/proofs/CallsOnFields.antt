@@ -29,7 +29,7 @@ use Rattle.model.proofs.Keeping.{tile, field-no-header, one-object, wor
 use Rattle.model.proofs.Members.{In}
 use Rattle.model.proofs.Objects.{index-address}
 use Rattle.model.proofs.Represents.{plain-no-address, Rep, Holds, Represents, Agrees, refuse-agrees, shape-passes, same-roots, rep-value, plain-names-nothing, header-names}
-use Rattle.model.proofs.RootCalls.{root-represents, has-root, two-roots}
+use Rattle.model.proofs.CallsOnRoots.{root-represents, has-root, two-roots}
 use Rattle.model.proofs.Shape.{first-in}
 use Rattle.model.proofs.Tests.{never, same?, or-none}
 
