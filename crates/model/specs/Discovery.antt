@@ -2,7 +2,7 @@
 -- A node is a number and has CELLS, one for each of its words; a cell may lead to a node. Nodes are met along the leads of
 -- the roots, then along the cells of the nodes met, in the order in which these were met and the cells of each in turn.
 use Prim.Native.Nat.{ℕ, zero, suc, _+_}
-use mathlib.Core.Bool.{Bool, true, false, cond, _||_}
+use mathlib.Core.Bool.{Bool, false, cond, _||_}
 use mathlib.Core.List.{List, [], _∷_, _++_}
 use mathlib.Core.Option.{Option, none, some}
 use lib.Dec.{eqb}

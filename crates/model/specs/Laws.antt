@@ -1,6 +1,6 @@
 -- Further laws, as types: what a window shows, integers and headers written and read back, lengths, and that a promise
 -- settles everything.
-use Prim.Native.Nat.{ℕ, _+_, _*_, _%_, _≤_, _<_}
+use Prim.Native.Nat.{ℕ, _*_, _%_, _≤_, _<_}
 use mathlib.Core.Path.{_≡_}
 use mathlib.Core.Bool.{true}
 use mathlib.Core.List.{List, []}

@@ -8,7 +8,7 @@ use mathlib.Core.Bool.{Bool, true, false, _&&_, and-true, and-assoc}
 use mathlib.Core.List.{List, [], _∷_, _++_}
 use lib.Bits.{bitOr, or-add-and, and-le-l, and-le-r, or-zero-l}
 use lib.Dec.{eqb}
-use lib.ListN.{length, getD, drop, set, replicate, length-set}
+use lib.ListN.{length, drop, set, replicate, length-set}
 use lib.Seq.{getD-set-same, getD-set-other, sets, drop-cons, take-add, drop-drop}
 use borrow.Author.Tests.{ne-eqb}
 use Rattle.model.specs.Words.{at}

@@ -1,6 +1,6 @@
 -- `words::runs::all_zero` meets its contract. Invariant: the words left are all 0 exactly where all are.
 use mathlib.Core.Path.{_≡_, refl, sym, _∙_}
-use Prim.Native.Nat.{_+_, _-_}
+use Prim.Native.Nat.{_+_}
 use native.Mathlib.Omega.{arith}
 use borrow.Author.Tests.{eq-eqb, ne-eqb}
 use Rattle.model.specs.Soundness.{all}

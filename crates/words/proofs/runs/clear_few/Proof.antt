@@ -1,7 +1,7 @@
 -- `words::runs::clear_few` meets its contract: each return is `cleared` at its number of words.
 use native.Mathlib.Omega.{arith}
 use native.Mathlib.Nat.{add-zero}
-use mathlib.Core.Path.{_≡_, refl}
+use mathlib.Core.Path.{_≡_}
 use lib.ListN.{length-set}
 use Rattle.words.specs.Runs.{cleared}
 use borrow.Author.Needs.{needs}

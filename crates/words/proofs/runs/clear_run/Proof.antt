@@ -1,12 +1,9 @@
 -- `words::runs::clear_run` meets its contract. Invariant: the list is `cleared` of what it was, at the turns made.
-use mathlib.Core.Path.{_≡_, refl, ap, _∙_, sym}
-use mathlib.Core.List.{List}
-use Prim.Native.Nat.{ℕ, _+_, _≤_, _-_}
-use native.Mathlib.Nat.{le-antisymm}
+use mathlib.Core.Path.{_≡_, refl}
+use Prim.Native.Nat.{_≤_, _-_}
 use native.Mathlib.Numerals.{add-one}
 use native.Mathlib.Omega.{arith}
-use lib.ListN.{length, set, length-set}
-use borrow.Author.Needs.{needs}
+use lib.ListN.{length, length-set}
 use Rattle.words.specs.Runs.{cleared}
 use Rattle.words.proofs.runs.clear_run.Statement.{statement}
 use Rattle.words.proofs.runs.clear_run.Tie as tie

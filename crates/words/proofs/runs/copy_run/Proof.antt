@@ -1,9 +1,9 @@
 -- `words::runs::copy_run` meets its contract. Invariant: the list is `copiedRun` of what it was, at the turns made.
-use mathlib.Core.Path.{_≡_, refl, ap, _∙_, sym}
-use Prim.Native.Nat.{ℕ, _+_, _≤_, _-_}
+use mathlib.Core.Path.{_≡_, refl}
+use Prim.Native.Nat.{_≤_, _-_}
 use native.Mathlib.Numerals.{add-one}
 use native.Mathlib.Omega.{arith}
-use lib.ListN.{length, set, getD, length-set}
+use lib.ListN.{length, length-set}
 use Rattle.words.specs.Runs.{copiedRun}
 use Rattle.words.proofs.runs.copy_run.Statement.{statement}
 use Rattle.words.proofs.runs.copy_run.Tie as tie

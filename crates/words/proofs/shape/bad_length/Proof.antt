@@ -1,5 +1,4 @@
 -- `words::shape::bad_length` meets its contract, test by test.
-use mathlib.Core.Path.{_≡_, refl, sym, ap, _∙_}
 use borrow.Author.Tests.{eq-eqb, ne-eqb, lt-ltb, le-ltb}
 use Rattle.words.proofs.shape.bad_length.Statement.{statement}
 use Rattle.words.proofs.shape.bad_length.Tie as tie

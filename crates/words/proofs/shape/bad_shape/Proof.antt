@@ -1,5 +1,5 @@
 -- `words::shape::bad_shape` meets its contract, test by test.
-use mathlib.Core.Path.{_≡_, refl, sym, ap, _∙_}
+use mathlib.Core.Path.{sym, _∙_}
 use borrow.Author.Tests.{lt-ltb, le-ltb}
 use native.Mathlib.Omega.{arith}
 use Prim.Native.Nat.{_-_, _/_}

@@ -1,5 +1,5 @@
 -- `words::shape::first_of` meets its contract, half by half.
-use mathlib.Core.Path.{_≡_, refl, sym, ap, _∙_}
+use mathlib.Core.Path.{sym, ap}
 use Rattle.model.specs.Words.{firstOf}
 use borrow.Author.Needs.{needs}
 use Rattle.words.proofs.shape.first_of.Statement.{statement}

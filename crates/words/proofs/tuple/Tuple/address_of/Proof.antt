@@ -1,5 +1,5 @@
 -- `words::tuple::Tuple::address_of` meets its contract.
-use mathlib.Core.Path.{_≡_, refl, sym, ap, _∙_}
+use mathlib.Core.Path.{sym, ap, _∙_}
 use Rattle.model.specs.Headers.{tuple}
 use native.Mathlib.Nat.{add-zero}
 use Rattle.model.specs.Words.{addressOf}

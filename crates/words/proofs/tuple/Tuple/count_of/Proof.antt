@@ -1,5 +1,5 @@
 -- `words::tuple::Tuple::count_of` meets its contract.
-use mathlib.Core.Path.{_≡_, refl, sym, ap, _∙_}
+use mathlib.Core.Path.{refl}
 use Rattle.model.specs.Headers.{tuple}
 use native.Mathlib.Omega.{arith}
 use borrow.Author.Needs.{needs}

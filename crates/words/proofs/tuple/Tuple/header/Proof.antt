@@ -1,5 +1,5 @@
 -- `words::tuple::Tuple::header` meets its contract, kind by kind.
-use mathlib.Core.Path.{_≡_, refl, sym, ap, _∙_}
+use mathlib.Core.Path.{refl, sym}
 use Rattle.model.specs.Headers.{tuple}
 use native.Mathlib.Nat.{zero-add}
 use borrow.Author.Needs.{needs}

@@ -1,5 +1,5 @@
 -- `words::tuple::Tuple::is_header` meets its contract.
-use mathlib.Core.Path.{_≡_, refl, sym, ap, _∙_}
+use mathlib.Core.Path.{refl}
 use Rattle.model.specs.Headers.{tuple}
 use Rattle.words.proofs.tuple.Tuple.is_header.Statement.{statement}
 use Rattle.words.proofs.tuple.Tuple.is_header.Tie as tie

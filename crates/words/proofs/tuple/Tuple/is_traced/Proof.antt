@@ -1,5 +1,5 @@
 -- `words::tuple::Tuple::is_traced` meets its contract.
-use mathlib.Core.Path.{_≡_, refl, sym, ap, _∙_}
+use mathlib.Core.Path.{sym}
 use Rattle.model.specs.Headers.{tuple}
 use Rattle.words.proofs.TupleLaws.{traced-below}
 use Rattle.words.proofs.tuple.Tuple.is_traced.Statement.{statement}

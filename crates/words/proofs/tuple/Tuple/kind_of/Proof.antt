@@ -1,5 +1,4 @@
 -- `words::tuple::Tuple::kind_of` meets its contract.
-use mathlib.Core.Path.{_≡_, refl, sym, ap, _∙_}
 use Rattle.model.specs.Headers.{tuple}
 use borrow.Author.Tests.{lt-ltb, le-ltb}
 use Rattle.words.proofs.tuple.Tuple.kind_of.Statement.{statement}

@@ -1,5 +1,5 @@
 -- `words::tuple::Tuple::mark` meets its contract.
-use mathlib.Core.Path.{_≡_, refl, sym, ap, _∙_}
+use mathlib.Core.Path.{refl}
 use Rattle.model.specs.Headers.{tuple}
 use borrow.Author.Needs.{needs}
 use Rattle.words.proofs.tuple.Tuple.mark.Statement.{statement}

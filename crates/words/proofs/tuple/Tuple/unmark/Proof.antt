@@ -1,5 +1,5 @@
 -- `words::tuple::Tuple::unmark` meets its contract: a mark is odd, so that it is not 0.
-use mathlib.Core.Path.{_≡_, refl, sym, ap, _∙_}
+use mathlib.Core.Path.{_≡_, refl}
 use Rattle.model.specs.Headers.{tuple}
 use Prim.Native.Nat.{_%_}
 use native.Mathlib.Omega.{arith}
