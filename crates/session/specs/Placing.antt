@@ -1,0 +1,38 @@
+-- What placing an object asks of the numbers, and what is left to do of an allocation once its object does not fit.
+use Prim.Native.Nat.{ℕ, _+_, _-_, _/_, _≤_, _<_}
+use mathlib.Core.Bool.{not}
+use lib.ListN.{length}
+use Rattle.model.specs.declared.Kind.{Kind}
+use Rattle.model.specs.declared.Record.{Record}
+use Rattle.model.specs.declared.Refusal.the-variants as Why
+use Rattle.model.specs.declared.Answer.the-variants as Says
+use Rattle.model.specs.Limits.{maxWords, maxFields}
+use Rattle.model.specs.Words.{State, firstOf, free}
+use Rattle.model.specs.Headers.{Layout}
+use Rattle.model.specs.Soundness.{sound}
+use Rattle.model.specs.Collection.{collected}
+use Rattle.model.specs.Answers.{Outcome, says, refuse}
+use Rattle.model.specs.Changes.{fits, placed}
+
+pub record MayPlace (s : State) (n r : ℕ) : Type 0 where
+  pub room : free s + (n + 1) ≤ length (s .heap)
+  pub words : length (s .heap) ≤ maxWords
+  pub root : r < length (s .roots)
+  pub count : n ≤ maxFields
+
+-- the free words of the current half, of the heap's length and the record
+abbrev pub spareOf : ℕ → Record → ℕ
+spareOf words q = firstOf ((words - 1) / 2) (q .half) + (words - 1) / 2 - q .free .0
+
+-- as much of SHAPE as they ask
+pub record MaySpare (words : ℕ) (q : Record) : Type 0 where
+  pub some : 1 ≤ words
+  pub few : words ≤ maxWords
+  pub high : q .free .0 ≤ firstOf ((words - 1) / 2) (q .half) + (words - 1) / 2
+
+-- the collection, and another try
+unfoldable pub retried : Layout → Kind → ℕ → ℕ → State → Outcome
+retried Y k n r s =
+    refuse (not (sound Y s)) Why.Damaged s
+    (refuse (not (fits n (collected Y s))) Why.Room (collected Y s)
+    (says Says.Done (placed Y k n r (collected Y s))))
