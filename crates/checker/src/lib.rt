@@ -101,10 +101,10 @@ fn fields_are_values(heap: &[u32], part: Part, object: Index) -> bool
 {
     let at = object.0;
     let header = heap[at];
-    if !Tuple::is_traced(header) {
-        return true;
+    if Tuple::is_traced(header) {
+        return are_values(heap, at + 1, Tuple::count_of(header), heap, part);
     }
-    are_values(heap, at + 1, Tuple::count_of(header), heap, part)
+    true
 }
 
 // The same of each object of the part.

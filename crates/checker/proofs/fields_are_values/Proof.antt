@@ -1,6 +1,5 @@
 -- `checker::fields_are_values` meets its contract: a case law for each return.
 use mathlib.Core.Path.{sym, _∙_}
-use borrow.Author.Tests.{not-true, not-false}
 use Rattle.model.specs.Headers.{tuple}
 use Rattle.checker.proofs.Turns.{fields-untraced, fields-traced}
 use borrow.Author.Needs.{needs}
@@ -21,9 +20,6 @@ shared-slice-read-header c = search needs
 is-traced-requires : tie.Need-is-traced-requires
 is-traced-requires c κs = search needs
 
-returns : tie.Need-returns
-returns c = sym (fields-untraced tuple _ _ _ (sym (c .before .is-traced .ensures) ∙ not-true _ (c .if1 .taken)))
-
 add-are-values : tie.Need-add-are-values
 add-are-values c = search needs
 
@@ -33,9 +29,12 @@ count-of-requires c κs = search needs
 are-values-requires : tie.Need-are-values-requires
 are-values-requires c κs = search needs
 
+returns : tie.Need-returns
+returns c =
+    fields-traced tuple _ _ _ (sym (c .before .before .before .is-traced .ensures) ∙ c .before .before .if1 .taken) _ (c .before .count-of .ensures .0) _ (c .are-values .ensures)
+
 returns-2 : tie.Need-returns-2
-returns-2 c =
-    fields-traced tuple _ _ _ (sym (c .before .before .before .is-traced .ensures) ∙ not-false _ (c .before .before .if1 .left)) _ (c .before .count-of .ensures .0) _ (c .are-values .ensures)
+returns-2 c = sym (fields-untraced tuple _ _ _ (sym (c .before .is-traced .ensures) ∙ c .if1 .left))
 
 pub fields-are-values-spec : {M : Type 1} → statement M
 fields-are-values-spec =
@@ -44,8 +43,8 @@ fields-are-values-spec =
     mul-header
     shared-slice-read-header
     is-traced-requires
-    returns
     add-are-values
     count-of-requires
     are-values-requires
+    returns
     returns-2)
