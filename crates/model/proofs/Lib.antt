@@ -48,3 +48,4 @@ pub mod Judged
 pub mod Demand1
 pub mod Laws
 pub mod Rivals
+pub mod Walks

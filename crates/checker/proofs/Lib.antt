@@ -1,0 +1,4 @@
+pub mod Turns
+pub mod MarkLaws
+pub mod SoundByMarks
+pub mod Returns

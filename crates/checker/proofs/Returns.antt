@@ -1,0 +1,120 @@
+-- A law for each return of the functions that only call others, over what those answered. Assumes nothing.
+use Prim.Native.Nat.{ℕ, _+_, _-_}
+use native.Mathlib.Omega.{arith}
+use mathlib.Core.Path.{_≡_, sym, ap, _∙_, subst}
+use mathlib.Core.Bool.{Bool, true, false, _&&_}
+use mathlib.Core.List.{List}
+use lib.ListN.{length}
+use lib.Seq.{take-length}
+use borrow.Author.Tests.{eq-eqb, ne-eqb}
+use Rattle.model.specs.declared.Answer.the-variants as Says
+use Rattle.model.specs.declared.Half.{Half}
+use Rattle.model.specs.declared.Record.{Record}
+use Rattle.model.specs.declared.Refusal.the-variants as Why
+use Rattle.model.specs.Answers.{outcome, refuse}
+use Rattle.model.specs.Calls.{check}
+use Rattle.model.specs.Headers.{Layout}
+use Rattle.model.specs.Shape.{badShape}
+use Rattle.model.specs.Soundness.{all, allZero, sound}
+use Rattle.model.specs.Values.{isNull}
+use Rattle.model.specs.Words.{lent, at, halfWords, other, firstOf}
+use Rattle.words.specs.Runs.{run, cleared}
+use Rattle.words.proofs.RunLaws.{Apart}
+use Rattle.checker.specs.declared.Part.{Part}
+use Rattle.checker.specs.Marks.{Fits, Halves, part, usedWords, partOf, Marking, marking, marked, isZeroAround, isValueByMarks, fieldsAreValuesByMarks, isTiledPart, headersOf, allAreValuesByMarks, usedPartSound}
+use Rattle.checker.proofs.SoundByMarks.{lengths, stop-is, marked-tiled, halves, fits, apart, sound-dirty, sound-clean, heap-restored}
+
+-- ---- the part of a record
+pub part-is : (S : ℕ) (q : Record) (i m : ℕ) (f : Half) → i ≡ firstOf S (q .half) → f ≡ other (q .half) → m ≡ firstOf S f → part i (q .free .0) m ≡ partOf S q
+part-is S q i m f a b c = ap (λ (x : ℕ). part x (q .free .0) m) a ∙ ap (part (firstOf S (q .half)) (q .free .0)) (c ∙ ap (firstOf S) b)
+
+-- ---- the words around the used part
+module _ (H : List ℕ) (p : Part) (S : ℕ) where
+  pub around-first : (at H 0 ≡ 0 → ⊥) → false ≡ isZeroAround H p S
+  unfolding isZeroAround
+  around-first n = rw (ne-eqb (at H 0) 0 n)
+
+  around-idle : at H 0 ≡ 0 → (b : Bool) → b ≡ all isNull (run H (p .marks .0) S) → isZeroAround H p S ≡ (b && allZero H (p .free .0) (p .first .0 + S))
+  unfolding isZeroAround
+  around-idle z b e = let s : p .marks .0 + S - p .marks .0 ≡ S = omega arith in rw (s, eq-eqb (at H 0) 0 z, e)
+
+  pub around-dirty : at H 0 ≡ 0 → false ≡ all isNull (run H (p .marks .0) S) → false ≡ isZeroAround H p S
+  around-dirty z e = sym (around-idle z false e)
+
+  pub around-rest : at H 0 ≡ 0 → true ≡ all isNull (run H (p .marks .0) S) → allZero H (p .free .0) (p .first .0 + S) ≡ isZeroAround H p S
+  around-rest z e = sym (around-idle z true e)
+
+-- ---- all roots, then all fields
+module _ (Y : Layout) (H roots : List ℕ) (p : Part) where
+  pub values-bad : false ≡ all (isValueByMarks Y H p) (run roots 0 (length roots)) → false ≡ allAreValuesByMarks Y H roots p
+  unfolding allAreValuesByMarks
+  values-bad e = rw (← (rw (take-length roots) at e))
+
+  pub values-good : true ≡ all (isValueByMarks Y H p) (run roots 0 (length roots)) → (r : Bool) → r ≡ all (fieldsAreValuesByMarks Y H p) (headersOf Y H p)
+      → r ≡ allAreValuesByMarks Y H roots p
+  unfolding allAreValuesByMarks
+  values-good e r g = rw (← (rw (take-length roots) at e)) g
+
+-- ---- what marking left
+module _ (Y : Layout) (H : List ℕ) (p : Part) (H′ : List ℕ) (stop : ℕ) (is : marking H′ stop ≡ marked Y H p) where
+  pub left-heap : H′ ≡ marked Y H p .heap
+  left-heap = ap (λ (m : Marking). m .heap) is
+
+  -- what was marked to the end lies in the heap and is tiled
+  pub marked-fits : Fits H p → Apart (p .first .0) (p .marks .0) (usedWords p) → stop ≡ p .free .0 → Fits H′ p × (isTiledPart Y H′ p ≡ true)
+  marked-fits f a e =
+      let s : length H′ ≡ length H = ap length left-heap ∙ lengths Y H p f a in (
+        record { start = f .start; used = omega (arith, f .used); marks = omega (arith, f .marks) },
+        rw left-heap
+            (marked-tiled Y H p f a
+            (sym (stop-is Y H p f a) ∙ eq-eqb (marked Y H p .stop) (p .free .0) (sym (ap (λ (m : Marking). m .stop) is) ∙ e))),
+      )
+
+  pub stopped-short : (roots : List ℕ) → (stop ≡ p .free .0 → ⊥) → false ≡ usedPartSound Y H roots p
+  unfolding usedPartSound
+  stopped-short roots n = rw (← is, ne-eqb stop (p .free .0) n)
+
+  pub stopped-free : (roots : List ℕ) → stop ≡ p .free .0 → (r : Bool) → r ≡ allAreValuesByMarks Y H′ roots p → r ≡ usedPartSound Y H roots p
+  unfolding usedPartSound
+  stopped-free roots e r g = rw (← is, eq-eqb stop (p .free .0) e) g
+
+-- ---- a state, and the part that the code took of it
+module _ (Y : Layout) (H roots : List ℕ) (q : Record) where
+  pub unsound-shape : badShape (lent H roots q) ≡ true → false ≡ sound Y (lent H roots q)
+  unfolding sound
+  unsound-shape b = rw b
+
+  module _ (fair : badShape (lent H roots q) ≡ false) (p : Part) (is : p ≡ partOf (halfWords H) q) where
+    pub part-halves : Halves H p (halfWords H)
+    part-halves = subst (λ (p : Part). Halves H p (halfWords H)) (sym is) (halves Y (lent H roots q) fair)
+
+    pub part-fits : Fits H p × Apart (p .first .0) (p .marks .0) (usedWords p)
+    part-fits =
+        subst (λ (p : Part). Fits H p × Apart (p .first .0) (p .marks .0) (usedWords p)) (sym is)
+        (fits Y (lent H roots q) fair, apart Y (lent H roots q) fair)
+
+    pub unsound-around : false ≡ isZeroAround H p (halfWords H) → false ≡ sound Y (lent H roots q)
+    unsound-around d = sym (sound-dirty Y (lent H roots q) fair (sym (d ∙ ap (λ (p : Part). isZeroAround H p (halfWords H)) is)))
+
+    pub sound-used : true ≡ isZeroAround H p (halfWords H) → (r : Bool) (H′ : List ℕ)
+        → r ≡ usedPartSound Y H roots p → H′ ≡ cleared (marked Y H p .heap) (p .marks .0) (usedWords p)
+        → (r ≡ sound Y (lent H roots q)) × (H′ ≡ H)
+    sound-used d r H′ a b =
+        let c : isZeroAround H (partOf (halfWords H) q) (halfWords H) ≡ true = sym (d ∙ ap (λ (p : Part). isZeroAround H p (halfWords H)) is) in (
+          a ∙ ap (λ (p : Part). usedPartSound Y H roots p) is ∙ sym (sound-clean Y (lent H roots q) fair c),
+          b ∙ ap (λ (p : Part). cleared (marked Y H p .heap) (p .marks .0) (usedWords p)) is ∙ heap-restored Y (lent H roots q) fair c,
+        )
+
+  -- ---- the call check
+  pub check-refused : badShape (lent H roots q) ≡ true → outcome (record { answer = Says.Refused Why.Shape; «record» = q }) H roots ≡ check Y (lent H roots q)
+  unfolding check refuse
+  check-refused b = rw b
+
+  module _ (fair : badShape (lent H roots q) ≡ false) (H′ : List ℕ) (same : H′ ≡ H) where
+    pub check-sound : true ≡ sound Y (lent H roots q) → outcome (record { answer = Says.Sound; «record» = q }) H′ roots ≡ check Y (lent H roots q)
+    unfolding check refuse
+    check-sound e = rw (same, fair, ← e)
+
+    pub check-unsound : false ≡ sound Y (lent H roots q) → outcome (record { answer = Says.Unsound; «record» = q }) H′ roots ≡ check Y (lent H roots q)
+    unfolding check refuse
+    check-unsound e = rw (same, fair, ← e)

@@ -1,0 +1,48 @@
+-- `checker::check` meets its contract: a law for each return.
+use mathlib.Core.Path.{sym, _∙_}
+use Rattle.model.specs.Headers.{tuple}
+use Rattle.checker.proofs.Returns.{check-refused, check-sound, check-unsound}
+use borrow.Author.Needs.{needs}
+use Rattle.checker.proofs.check.Statement.{statement}
+use Rattle.checker.proofs.check.Tie as tie
+use Rattle.checker.proofs.check.Reads as reads
+use Rattle.checker.proofs.check.Lts as lts
+use Rattle.checker.proofs.is_sound.Reads as is-sound-reads
+use Rattle.words.proofs.shape.bad_shape.Reads as bad-shape-reads
+
+bad-shape-requires : tie.Need-bad-shape-requires
+bad-shape-requires c κs = search needs
+
+returns : tie.Need-returns
+returns c = check-refused tuple _ _ _ (sym (c .before .bad-shape .ensures) ∙ c .if1 .taken)
+
+is-sound-requires : tie.Need-is-sound-requires
+is-sound-requires c κs = search needs
+
+same-length : tie.Need-same-length
+same-length c = search needs
+
+returns-2 : tie.Need-returns-2
+returns-2 c =
+    let k = c .before .before .before .is-sound .ensures in
+    check-sound tuple _ _ _ (sym (c .before .before .before .before .before .before .bad-shape .ensures) ∙ c .before .before .before .before .before .if1 .left) _ (k .1) (sym (c .if2 .taken) ∙ k .0)
+
+same-length-2 : tie.Need-same-length-2
+same-length-2 c = search needs
+
+returns-3 : tie.Need-returns-3
+returns-3 c =
+    let k = c .before .before .before .is-sound .ensures in
+    check-unsound tuple _ _ _ (sym (c .before .before .before .before .before .before .bad-shape .ensures) ∙ c .before .before .before .before .before .if1 .left) _ (k .1) (sym (c .if2 .left) ∙ k .0)
+
+pub check-spec : {M : Type 1} → statement M
+check-spec =
+    tie.close
+    (tie.spec
+    bad-shape-requires
+    returns
+    is-sound-requires
+    same-length
+    returns-2
+    same-length-2
+    returns-3)

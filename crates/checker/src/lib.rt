@@ -1,0 +1,224 @@
+// The soundness check: linear in the words, and with no memory of its own. Each header is marked in the idle half, which has
+// to be 0; roots and fields are held against the marks; then the marks are cleared, so that no word differs.
+ghost use mathlib.Core.Path.{_≡_};
+ghost use mathlib.Core.Bool.{true};
+ghost use Prim.Native.Nat.{_+_, _≤_};
+ghost use lib.ListN.{length};
+ghost use Rattle.model.specs.Answers.{outcome};
+ghost use Rattle.model.specs.Calls as Calls;
+ghost use Rattle.model.specs.Headers.{tuple};
+ghost use Rattle.model.specs.Limits.{maxHalf};
+ghost use Rattle.model.specs.Objects.{size};
+ghost use Rattle.model.specs.Soundness.{all, sound};
+ghost use Rattle.model.specs.Words.{lent};
+ghost use Rattle.words.specs.Runs.{run, cleared};
+ghost use Rattle.words.proofs.RunLaws.{Apart};
+ghost use Rattle.checker.specs.Marks.{Fits, Halves, usedWords, partOf, marking, marked, isTiledPart, headersOf, isZeroAround, isValueByMarks, fieldsAreValuesByMarks, allAreValuesByMarks, usedPartSound};
+use model::Address;
+use model::Answer;
+use model::Answered;
+use model::Index;
+use model::Record;
+use model::Refusal;
+use words::runs;
+use words::shape;
+use words::tuple::Tuple;
+
+// The used part of the current half, from its first word to the free index. The mark of the word `first + k` is the word
+// `marks + k` of the other half.
+pub struct Part {
+    pub first: Index,
+    pub free: Index,
+    pub marks: Index,
+}
+
+// Marks the headers from the first on. Answers where it stopped: at the free index exactly if objects tile the part.
+fn mark_headers(heap: &mut [u32], part: Part) -> Index
+    requires { ⌜ Fits (now heap) part ⌝ }
+    ensures { λ r. ⌜ marking (now (heap .exit)) (r .0) ≡ marked tuple (now (heap .entry)) part ⌝ }
+{
+    let first = part.first.0;
+    let free = part.free.0;
+    let marks = part.marks.0;
+    let mut at = first;
+    while at < free {
+        let header = heap[at];
+        if !Tuple::is_header(header) {
+            return Index(at);
+        }
+        heap[marks + (at - first)] = 1;
+        at += Tuple::count_of(header) + 1;
+    }
+    Index(at)
+}
+
+// Whether a word is odd, 0, or the address of a marked word.
+fn is_value(heap: &[u32], part: Part, word: u32) -> bool
+    requires { ⌜ Fits (now heap) part ⌝ }
+    ensures { λ r. ⌜ r ≡ isValueByMarks tuple (now (heap .entry)) part word ⌝ }
+{
+    if word % 2 == 1 {
+        return true;
+    }
+    if word == 0 {
+        return true;
+    }
+    if word % 4 != 0 {
+        return false;
+    }
+    let first = part.first.0;
+    let marks = part.marks.0;
+    let i = Tuple::index_of(Address(word)).0;
+    if i < first {
+        return false;
+    }
+    if part.free.0 <= i {
+        return false;
+    }
+    heap[marks + (i - first)] == 1
+}
+
+// Whether n words of a run are values: roots, or fields of the heap itself.
+fn are_values(words: &[u32], from: usize, n: usize, heap: &[u32], part: Part) -> bool
+    requires { ⌜ (from + n ≤ length (now words)) × Fits (now heap) part ⌝ }
+    ensures { λ r. ⌜ r ≡ all (isValueByMarks tuple (now (heap .entry)) part) (run (now (words .entry)) from n) ⌝ }
+{
+    let mut i: usize = 0;
+    while i < n {
+        let word = words[from + i];
+        if !is_value(heap, part, word) {
+            return false;
+        }
+        i += 1;
+    }
+    true
+}
+
+// Whether the fields of the object with this header are values, if it is traced.
+fn fields_are_values(heap: &[u32], part: Part, object: Index) -> bool
+    requires { ⌜ (object .0 + size tuple (now heap) (object .0) ≤ length (now heap)) × Fits (now heap) part ⌝ }
+    ensures { λ r. ⌜ r ≡ fieldsAreValuesByMarks tuple (now (heap .entry)) part (object .0) ⌝ }
+{
+    let at = object.0;
+    let header = heap[at];
+    if Tuple::is_traced(header) {
+        return are_values(heap, at + 1, Tuple::count_of(header), heap, part);
+    }
+    true
+}
+
+// The same of each object of the part.
+fn all_fields_are_values(heap: &[u32], part: Part) -> bool
+    requires { ⌜ Fits (now heap) part × (isTiledPart tuple (now heap) part ≡ true) ⌝ }
+    ensures { λ r. ⌜ r ≡ all (fieldsAreValuesByMarks tuple (now (heap .entry)) part) (headersOf tuple (now (heap .entry)) part) ⌝ }
+{
+    let free = part.free.0;
+    let mut at = part.first.0;
+    while at < free {
+        if !fields_are_values(heap, part, Index(at)) {
+            return false;
+        }
+        at += Tuple::count_of(heap[at]) + 1;
+    }
+    true
+}
+
+// The same of the roots too. The headers are marked.
+fn all_are_values(heap: &[u32], roots: &[u32], part: Part) -> bool
+    requires { ⌜ Fits (now heap) part × (isTiledPart tuple (now heap) part ≡ true) ⌝ }
+    ensures { λ r. ⌜ r ≡ allAreValuesByMarks tuple (now (heap .entry)) (now (roots .entry)) part ⌝ }
+{
+    if !are_values(roots, 0, roots.len(), heap, part) {
+        return false;
+    }
+    all_fields_are_values(heap, part)
+}
+
+// Whether objects tile the part, and each root and each field is a value. Leaves the marks.
+fn mark_and_test(heap: &mut [u32], roots: &[u32], part: Part) -> bool
+    requires { ⌜ Fits (now heap) part × Apart (part .first .0) (part .marks .0) (usedWords part) ⌝ }
+    ensures { λ r. ⌜ (r ≡ usedPartSound tuple (now (heap .entry)) (now (roots .entry)) part) × (now (heap .exit) ≡ marked tuple (now (heap .entry)) part .heap) ⌝ }
+{
+    let free = part.free.0;
+    if mark_headers(heap, part).0 != free {
+        return false;
+    }
+    all_are_values(heap, roots, part)
+}
+
+// The same, and the marks are cleared.
+fn is_used_part_sound(heap: &mut [u32], roots: &[u32], part: Part) -> bool
+    requires { ⌜ Fits (now heap) part × Apart (part .first .0) (part .marks .0) (usedWords part) ⌝ }
+    ensures { λ r. ⌜ (r ≡ usedPartSound tuple (now (heap .entry)) (now (roots .entry)) part) × (now (heap .exit) ≡ cleared (marked tuple (now (heap .entry)) part .heap) (part .marks .0) (usedWords part)) ⌝ }
+{
+    let marks = part.marks.0;
+    let words = part.free.0 - part.first.0;
+    let is_sound = mark_and_test(heap, roots, part);
+    runs::clear(heap, marks, words);
+    is_sound
+}
+
+// Whether word 0, the half of the marks and the words from the free index on are 0. A half has `words` words.
+fn is_zero_around(heap: &[u32], part: Part, words: usize) -> bool
+    requires { ⌜ Halves (now heap) part words ⌝ }
+    ensures { λ r. ⌜ r ≡ isZeroAround (now (heap .entry)) part words ⌝ }
+{
+    if heap[0] != 0 {
+        return false;
+    }
+    if !runs::all_zero(heap, part.marks.0, words) {
+        return false;
+    }
+    runs::all_zero(heap, part.free.0, part.first.0 + words - part.free.0)
+}
+
+// The used part of a record's half, and its marks in the other half.
+fn part_of(words: usize, record: Record) -> Part
+    requires { ⌜ words ≤ maxHalf ⌝ }
+    ensures { λ r. ⌜ r ≡ partOf words «record» ⌝ }
+{
+    let half = record.half;
+    let free = record.free;
+    Part {
+        first: shape::first_of(words, half),
+        free,
+        marks: shape::first_of(words, shape::other_half(half)),
+    }
+}
+
+// Whether the heap is sound. No word differs afterwards. For the calls that collect, too.
+pub fn is_sound(heap: &mut [u32], roots: &[u32], record: Record) -> bool
+    ensures { λ r. ⌜ (r ≡ sound tuple (lent (now (heap .entry)) (now (roots .entry)) «record»)) × (now (heap .exit) ≡ now (heap .entry)) ⌝ }
+{
+    if shape::bad_shape(heap.len(), roots.len(), record) {
+        return false;
+    }
+    let words = (heap.len() - 1) / 2;
+    let part = part_of(words, record);
+    if !is_zero_around(heap, part, words) {
+        return false;
+    }
+    is_used_part_sound(heap, roots, part)
+}
+
+// The call check.
+pub fn check(heap: &mut [u32], roots: &[u32], record: Record) -> Answered
+    ensures { λ r. ⌜ outcome r (now (heap .exit)) (now (roots .entry)) ≡ Calls.check tuple (lent (now (heap .entry)) (now (roots .entry)) «record») ⌝ }
+{
+    if shape::bad_shape(heap.len(), roots.len(), record) {
+        return Answered {
+            answer: Answer::Refused(Refusal::Shape),
+            record,
+        };
+    }
+    if is_sound(heap, roots, record) {
+        return Answered {
+            answer: Answer::Sound,
+            record,
+        };
+    }
+    Answered {
+        answer: Answer::Unsound,
+        record,
+    }
+}
