@@ -1,0 +1,6 @@
+pub mod Signs
+pub mod TaggedIntegers
+pub mod RootNumbers
+pub mod FreshHeap
+pub mod NamedObjects
+pub mod ReachedFields

@@ -1,0 +1,128 @@
+-- `access::objects::inspect` meets its contract, test by test; an object that is named lies in the heap.
+use Prim.Native.Nat.{_<_}
+use borrow.Author.Tests.{eq-eqb, ne-eqb, le-leb, lt-leb, not-false}
+use mathlib.Core.Path.{sym, ap, _∙_}
+use mathlib.Core.Bool.{not}
+use lib.ListN.{length}
+use lib.IntN.{ℤ}
+use Rattle.model.specs.declared.Answer.the-variants as Says
+use Rattle.model.specs.Answers.{says, refuse}
+use Rattle.model.specs.Words.{lent}
+use Rattle.model.specs.Calls.{inspect}
+use Rattle.access.proofs.NamedObjects.{free-in-heap, header-in, inspect-integer, inspect-object}
+use borrow.Author.Needs.{needs}
+use Rattle.access.proofs.objects.inspect.Statement.{statement}
+use Rattle.access.proofs.objects.inspect.Tie as tie
+use Rattle.access.proofs.objects.inspect.Reads as reads
+use Rattle.access.proofs.objects.inspect.Lts as lts
+use Rattle.access.proofs.answers.say.Reads as say-reads
+use Rattle.access.proofs.integers.untag.Reads as untag-reads
+use Rattle.access.proofs.objects.names.Reads as names-reads
+use Rattle.words.proofs.shape.bad_shape.Reads as bad-shape-reads
+use Rattle.words.proofs.tuple.Tuple.count_of.Reads as count-of-reads
+use Rattle.words.proofs.tuple.Tuple.index_of.Reads as index-of-reads
+use Rattle.words.proofs.tuple.Tuple.kind_of.Reads as kind-of-reads
+
+below : (c : tie.After-index-of) → c .index-of .result .0 < length (c .before .before .before .before .before .before .before .before .before .before .before .args .heap .now)
+below c = rw (c .index-of .ensures) (header-in _ _ (c .before .before .before .before .before .before .before .before .before .before .before .args .roots .now) _ _ (free-in-heap (lent (c .before .before .before .before .before .before .before .before .before .before .before .args .heap .now) (c .before .before .before .before .before .before .before .before .before .before .before .args .roots .now) (c .before .before .before .before .before .before .before .before .before .before .before .args .«record»)) (sym (c .before .before .before .before .before .before .before .before .bad-shape .ensures) ∙ c .before .before .before .before .before .before .before .if1 .left)) (sym (c .before .before .names .ensures (c .before .before .before .before .before .before .before .before .before .before .before .args .roots .now)) ∙ not-false _ (c .before .if5 .left)))
+
+bad-shape-requires : tie.Need-bad-shape-requires
+bad-shape-requires c κs = search needs
+
+say-requires : tie.Need-say-requires
+say-requires c κs = search needs
+
+returns : tie.Need-returns
+unfolding inspect refuse
+returns c = simp (c .say .ensures, sym (c .before .before .bad-shape .ensures) ∙ c .before .if1 .taken)
+
+say-requires-2 : tie.Need-say-requires-2
+say-requires-2 c κs = search needs
+
+returns-2 : tie.Need-returns-2
+unfolding inspect refuse
+returns-2 c = simp (c .say2 .ensures, sym (c .before .before .before .bad-shape .ensures) ∙ c .before .before .if1 .left, le-leb _ _ (c .before .if2 .taken))
+
+mul-word : tie.Need-mul-word
+mul-word c = search needs
+
+shared-slice-read-word : tie.Need-shared-slice-read-word
+shared-slice-read-word c = search needs
+
+untag-requires : tie.Need-untag-requires
+untag-requires c κs = search needs
+
+say-requires-3 : tie.Need-say-requires-3
+say-requires-3 c κs = search needs
+
+returns-3 : tie.Need-returns-3
+returns-3 c = rw (c .say3 .ensures) (ap (λ (v : ℤ). says (Says.Integer v) (lent (c .before .before .before .before .before .before .before .before .before .args .heap .now) (c .before .before .before .before .before .before .before .before .before .args .roots .now) (c .before .before .before .before .before .before .before .before .before .args .«record»))) (search needs) ∙ inspect-integer _ (lent (c .before .before .before .before .before .before .before .before .before .args .heap .now) (c .before .before .before .before .before .before .before .before .before .args .roots .now) (c .before .before .before .before .before .before .before .before .before .args .«record»)) _ (sym (c .before .before .before .before .before .before .bad-shape .ensures) ∙ c .before .before .before .before .before .if1 .left) (c .before .before .before .before .if2 .left) (c .before .before .if3 .taken))
+
+say-requires-4 : tie.Need-say-requires-4
+say-requires-4 c κs = search needs
+
+returns-4 : tie.Need-returns-4
+unfolding inspect refuse
+returns-4 c = simp (c .say4 .ensures, sym (c .before .before .before .before .before .before .bad-shape .ensures) ∙ c .before .before .before .before .before .if1 .left, lt-leb _ _ (c .before .before .before .before .if2 .left), ne-eqb _ _ (c .before .before .if3 .left), eq-eqb _ _ (c .before .if4 .taken))
+
+names-requires : tie.Need-names-requires
+names-requires c κs = free-in-heap (lent (c .before .before .before .before .before .before .before .before .args .heap .now) (c .before .before .before .before .before .before .before .before .args .roots .now) (c .before .before .before .before .before .before .before .before .args .«record»)) (sym (c .before .before .before .before .before .bad-shape .ensures) ∙ c .before .before .before .before .if1 .left)
+
+say-requires-5 : tie.Need-say-requires-5
+say-requires-5 c κs = search needs
+
+returns-5 : tie.Need-returns-5
+unfolding inspect refuse
+returns-5 c = simp (c .say5 .ensures, sym (c .before .before .before .before .before .before .before .before .bad-shape .ensures) ∙ c .before .before .before .before .before .before .before .if1 .left, lt-leb _ _ (c .before .before .before .before .before .before .if2 .left), ne-eqb _ _ (c .before .before .before .before .if3 .left), ne-eqb _ _ (c .before .before .before .if4 .left), ap not (sym (c .before .before .names .ensures (c .before .before .before .before .before .before .before .before .before .before .before .args .roots .now))) ∙ c .before .if5 .taken)
+
+index-of-requires : tie.Need-index-of-requires
+index-of-requires c κs = search needs
+
+mul-header : tie.Need-mul-header
+mul-header c = let b = below c in search needs
+
+shared-slice-read-header : tie.Need-shared-slice-read-header
+shared-slice-read-header c = below (c .before)
+
+kind-of-requires : tie.Need-kind-of-requires
+kind-of-requires c κs = search needs
+
+count-of-requires : tie.Need-count-of-requires
+count-of-requires c κs = search needs
+
+cast-count : tie.Need-cast-count
+cast-count c = search needs
+
+say-requires-6 : tie.Need-say-requires-6
+say-requires-6 c κs = search needs
+
+returns-6 : tie.Need-returns-6
+returns-6 c = rw (c .say6 .ensures, c .before .before .kind-of .ensures, c .before .count-of .ensures .0) (inspect-object _ (lent (c .before .before .before .before .before .before .before .before .before .before .before .before .before .before .before .args .heap .now) (c .before .before .before .before .before .before .before .before .before .before .before .before .before .before .before .args .roots .now) (c .before .before .before .before .before .before .before .before .before .before .before .before .before .before .before .args .«record»)) _ _ (c .before .before .before .before .index-of .ensures) (sym (c .before .before .before .before .before .before .before .before .before .before .before .before .bad-shape .ensures) ∙ c .before .before .before .before .before .before .before .before .before .before .before .if1 .left) (c .before .before .before .before .before .before .before .before .before .before .if2 .left) (c .before .before .before .before .before .before .before .before .if3 .left) (c .before .before .before .before .before .before .before .if4 .left) (sym (c .before .before .before .before .before .before .names .ensures (c .before .before .before .before .before .before .before .before .before .before .before .before .before .before .before .args .roots .now)) ∙ not-false _ (c .before .before .before .before .before .if5 .left)))
+
+pub inspect-spec : {M : Type 1} → statement M
+inspect-spec =
+    tie.close
+    (tie.spec
+    bad-shape-requires
+    say-requires
+    returns
+    say-requires-2
+    returns-2
+    mul-word
+    shared-slice-read-word
+    untag-requires
+    say-requires-3
+    returns-3
+    say-requires-4
+    returns-4
+    names-requires
+    say-requires-5
+    returns-5
+    index-of-requires
+    mul-header
+    shared-slice-read-header
+    kind-of-requires
+    count-of-requires
+    cast-count
+    say-requires-6
+    returns-6)
