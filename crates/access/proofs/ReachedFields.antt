@@ -19,8 +19,8 @@ use Rattle.model.specs.Shape.{badShape}
 use Rattle.model.specs.Answers.{Outcome, says, refuse}
 use Rattle.model.specs.Changes.{noRoot, rootWord, withRoot, withWord}
 use Rattle.model.specs.Calls.{isOfKind, onField, load, store, rawRead, rawWrite}
-use Rattle.access.specs.declared.fields.Field.{Field}
-use Rattle.access.specs.declared.fields.Field.the-variants.{At, Refused}
+use Rattle.access.specs.declared.objects.Field.{Field}
+use Rattle.access.specs.declared.objects.Field.the-variants.{At, Refused}
 use Rattle.access.specs.Leaves.{fieldOf, reached}
 use Rattle.access.proofs.NamedObjects.{free-in-heap, named-ends}
 use Rattle.access.proofs.RootNumbers.{both-below}

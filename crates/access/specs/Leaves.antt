@@ -19,8 +19,8 @@ use Rattle.model.specs.Changes.{noRoot, rootWord}
 use Rattle.model.specs.Calls.{isOfKind}
 use Rattle.access.specs.declared.integers.Tagged.{Tagged}
 use Rattle.access.specs.declared.integers.Tagged.the-variants.{Word, OutOfRange}
-use Rattle.access.specs.declared.fields.Field.{Field}
-use Rattle.access.specs.declared.fields.Field.the-variants.{At, Refused}
+use Rattle.access.specs.declared.objects.Field.{Field}
+use Rattle.access.specs.declared.objects.Field.the-variants.{At, Refused}
 
 -- what SHAPE leaves for a test of heap words: each index below the free one is that of a word
 pub record FreeInHeap (H : List ℕ) (q : Record) : Type 0 where

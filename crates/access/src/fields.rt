@@ -1,60 +1,21 @@
 // The calls on one field of the object that a root names: load, store, raw read, raw write. Each looks at the object's
 // header and at that field, and at no other heap word.
 ghost use mathlib.Core.Path.{_≡_};
-ghost use mathlib.Core.List.{List};
-ghost use Prim.Native.Nat.{ℕ};
 ghost use Rattle.model.specs.Words.{lent};
 ghost use Rattle.model.specs.Headers as Layouts;
 ghost use Rattle.model.specs.Answers.{outcome};
 ghost use Rattle.model.specs.Calls as Calls;
-ghost use Rattle.access.specs.Leaves.{FreeInHeap, fieldOf, reached};
+ghost use Rattle.access.specs.Leaves.{reached};
 use super::answers::say;
-use super::objects::names;
-use super::roots::no_root;
-use model::Address;
+use super::objects::Field;
+use super::objects::field_of;
+use super::root_numbers::no_root;
 use model::Answer;
 use model::Answered;
-use model::Index;
 use model::Kind;
 use model::Record;
 use model::Refusal;
 use words::shape::bad_shape;
-use words::tuple::Tuple;
-
-// The index of a field's word, or why there is none.
-pub enum Field {
-    At(Index),
-    Refused(Refusal),
-}
-
-fn is_of_kind(kind: Kind, header: u32) -> bool
-    ensures { λ r. ⌜ r ≡ Calls.isOfKind kind (Layouts.tuple .kindOf header) ⌝ }
-{
-    let traced = Tuple::is_traced(header);
-    match kind {
-        Kind::Traced => traced,
-        Kind::Untraced => !traced,
-    }
-}
-
-// The field of the object that a word names: OBJECT, KIND and FIELD in order.
-fn field_of(heap: &[u32], record: Record, word: u32, kind: Kind, field: usize) -> Field
-    requires { ⌜ FreeInHeap (now heap) «record» ⌝ }
-    ensures { λ r. ⌜ ((R : List ℕ) → r ≡ fieldOf Layouts.tuple kind word field (lent (now (heap .entry)) R «record»)) ⌝ }
-{
-    if !names(heap, record, word) {
-        return Field::Refused(Refusal::Object);
-    }
-    let at = Tuple::index_of(Address(word)).0;
-    let header = heap[at];
-    if !is_of_kind(kind, header) {
-        return Field::Refused(Refusal::Kind);
-    }
-    if Tuple::count_of(header) <= field {
-        return Field::Refused(Refusal::Field);
-    }
-    Field::At(Index(at + 1 + field))
-}
 
 // What the four calls have in common: SHAPE, ROOT for the object's root and for the other that the call names, and then
 // the field. A call that names no other root names the object's twice.

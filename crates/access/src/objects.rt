@@ -1,24 +1,17 @@
-// The object that a word names: whether it names one, what inspect says of a root, and where a window on it opens.
+// The object that a word names: whether it names one, and a field of it.
 ghost use mathlib.Core.Path.{_≡_};
 ghost use mathlib.Core.List.{List};
 ghost use Prim.Native.Nat.{ℕ};
 ghost use Rattle.model.specs.Words.{lent};
 ghost use Rattle.model.specs.Headers as Layouts;
 ghost use Rattle.model.specs.Objects as Objects;
-ghost use Rattle.model.specs.Answers.{outcome};
-ghost use Rattle.model.specs.Calls as Calls;
-ghost use Rattle.model.specs.Window.{window};
-ghost use Rattle.access.specs.Leaves.{FreeInHeap};
-use super::answers::say;
-use super::integers::untag;
+ghost use Rattle.model.specs.Calls.{isOfKind};
+ghost use Rattle.access.specs.Leaves.{FreeInHeap, fieldOf};
 use model::Address;
-use model::Answer;
-use model::Answered;
 use model::Index;
-use model::Place;
+use model::Kind;
 use model::Record;
 use model::Refusal;
-use words::shape::bad_shape;
 use words::shape::first_of;
 use words::tuple::Tuple;
 use words::tuple::is_address;
@@ -51,51 +44,37 @@ pub fn names(heap: &[u32], record: Record, word: u32) -> bool
     at + (Tuple::count_of(header) + 1) <= free
 }
 
-// What a root holds: null, an integer, or an object with its kind and field count; or SHAPE, ROOT or OBJECT. Leaves all
-// as it was. Of the heap it looks at the header that the root names, and at no field.
-pub fn inspect(heap: &[u32], roots: &[u32], record: Record, root: usize) -> Answered
-    ensures { λ r. ⌜ outcome r (now (heap .entry)) (now (roots .entry)) ≡ Calls.inspect Layouts.tuple root (lent (now (heap .entry)) (now (roots .entry)) «record») ⌝ }
-{
-    if bad_shape(heap.len(), roots.len(), record) {
-        return say(Answer::Refused(Refusal::Shape), record);
-    }
-    if roots.len() <= root {
-        return say(Answer::Refused(Refusal::Root), record);
-    }
-    let word = roots[root];
-    if word % 2 == 1 {
-        return say(Answer::Integer(untag(word)), record);
-    }
-    if word == 0 {
-        return say(Answer::Null, record);
-    }
-    if !names(heap, record, word) {
-        return say(Answer::Refused(Refusal::Object), record);
-    }
-    let at = Tuple::index_of(Address(word)).0;
-    let header = heap[at];
-    let kind = Tuple::kind_of(header);
-    let count = Tuple::count_of(header) as u32;
-    say(Answer::Object(kind, count), record)
+// The index of a field's word, or why there is none.
+pub enum Field {
+    At(Index),
+    Refused(Refusal),
 }
 
-// Where the object that a root names stands, of either kind, with its field count; or SHAPE, ROOT or OBJECT. It looks at
-// the header, and at no field.
-pub fn find(heap: &[u32], roots: &[u32], record: Record, object: usize) -> Place
-    ensures { λ r. ⌜ r ≡ window Layouts.tuple object (lent (now (heap .entry)) (now (roots .entry)) «record») ⌝ }
+fn is_of_kind(kind: Kind, header: u32) -> bool
+    ensures { λ r. ⌜ r ≡ isOfKind kind (Layouts.tuple .kindOf header) ⌝ }
 {
-    if bad_shape(heap.len(), roots.len(), record) {
-        return Place::Refused(Refusal::Shape);
+    let traced = Tuple::is_traced(header);
+    match kind {
+        Kind::Traced => traced,
+        Kind::Untraced => !traced,
     }
-    if roots.len() <= object {
-        return Place::Refused(Refusal::Root);
-    }
-    let word = roots[object];
+}
+
+// The field of the object that a word names: OBJECT, KIND and FIELD in order.
+pub fn field_of(heap: &[u32], record: Record, word: u32, kind: Kind, field: usize) -> Field
+    requires { ⌜ FreeInHeap (now heap) «record» ⌝ }
+    ensures { λ r. ⌜ ((R : List ℕ) → r ≡ fieldOf Layouts.tuple kind word field (lent (now (heap .entry)) R «record»)) ⌝ }
+{
     if !names(heap, record, word) {
-        return Place::Refused(Refusal::Object);
+        return Field::Refused(Refusal::Object);
     }
     let at = Tuple::index_of(Address(word)).0;
     let header = heap[at];
-    let count = Tuple::count_of(header) as u32;
-    Place::Object(Index(at), count)
+    if !is_of_kind(kind, header) {
+        return Field::Refused(Refusal::Kind);
+    }
+    if Tuple::count_of(header) <= field {
+        return Field::Refused(Refusal::Field);
+    }
+    Field::At(Index(at + 1 + field))
 }

@@ -1,28 +1,17 @@
 // The calls on roots alone: set to an integer, set to null, copy, same. None looks at a heap word.
 ghost use mathlib.Core.Path.{_≡_};
-ghost use mathlib.Core.Bool.{_||_};
-ghost use lib.Dec.{leb};
 ghost use Rattle.model.specs.Words.{lent};
 ghost use Rattle.model.specs.Answers.{outcome};
 ghost use Rattle.model.specs.Calls as Calls;
 use super::answers::say;
 use super::integers::Tagged;
 use super::integers::tag;
+use super::root_numbers::no_root;
 use model::Answer;
 use model::Answered;
 use model::Record;
 use model::Refusal;
 use words::shape::bad_shape;
-
-// Whether either of two numbers is that of no root.
-pub fn no_root(roots: usize, one: usize, other: usize) -> bool
-    ensures { λ r. ⌜ r ≡ (leb roots one || leb roots other) ⌝ }
-{
-    if roots <= one {
-        return true;
-    }
-    roots <= other
-}
 
 // Root `to` gets an integer's word: done, or SHAPE, ROOT or RANGE. Leaves the heap and the record.
 pub fn set_integer(

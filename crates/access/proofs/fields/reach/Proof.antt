@@ -11,8 +11,8 @@ use Rattle.access.proofs.fields.reach.Statement.{statement}
 use Rattle.access.proofs.fields.reach.Tie as tie
 use Rattle.access.proofs.fields.reach.Reads as reads
 use Rattle.access.proofs.fields.reach.Lts as lts
-use Rattle.access.proofs.fields.field_of.Reads as field-of-reads
-use Rattle.access.proofs.roots.no_root.Reads as no-root-reads
+use Rattle.access.proofs.objects.field_of.Reads as field-of-reads
+use Rattle.access.proofs.root_numbers.no_root.Reads as no-root-reads
 use Rattle.words.proofs.shape.bad_shape.Reads as bad-shape-reads
 
 below : (c : tie.Else2) → c .before .before .before .before .before .before .args .object < length (c .before .before .before .before .before .before .args .roots .now)

@@ -12,7 +12,7 @@ use Rattle.access.proofs.roots.copy.Tie as tie
 use Rattle.access.proofs.roots.copy.Reads as reads
 use Rattle.access.proofs.roots.copy.Lts as lts
 use Rattle.access.proofs.answers.say.Reads as say-reads
-use Rattle.access.proofs.roots.no_root.Reads as no-root-reads
+use Rattle.access.proofs.root_numbers.no_root.Reads as no-root-reads
 use Rattle.words.proofs.shape.bad_shape.Reads as bad-shape-reads
 
 below : (c : tie.Else2) → (c .before .before .before .before .before .before .args .from < length (c .before .before .before .before .before .before .args .roots .now)) × (c .before .before .before .before .before .before .args .to < length (c .before .before .before .before .before .before .args .roots .now))

@@ -1,4 +1,4 @@
--- `access::fields::field_of` meets its contract, test by test; an object that is named lies in the heap.
+-- `access::objects::field_of` meets its contract, test by test; an object that is named lies in the heap.
 use borrow.Author.Tests.{le-leb, not-false}
 use mathlib.Core.Path.{sym, ap, _∙_}
 use mathlib.Core.Bool.{not}
@@ -8,11 +8,11 @@ use Rattle.access.specs.Leaves.{fieldOf}
 use Rattle.access.proofs.NamedObjects.{header-in}
 use Rattle.access.proofs.ReachedFields.{field-given}
 use borrow.Author.Needs.{needs}
-use Rattle.access.proofs.fields.field_of.Statement.{statement}
-use Rattle.access.proofs.fields.field_of.Tie as tie
-use Rattle.access.proofs.fields.field_of.Reads as reads
-use Rattle.access.proofs.fields.field_of.Lts as lts
-use Rattle.access.proofs.fields.is_of_kind.Reads as is-of-kind-reads
+use Rattle.access.proofs.objects.field_of.Statement.{statement}
+use Rattle.access.proofs.objects.field_of.Tie as tie
+use Rattle.access.proofs.objects.field_of.Reads as reads
+use Rattle.access.proofs.objects.field_of.Lts as lts
+use Rattle.access.proofs.objects.is_of_kind.Reads as is-of-kind-reads
 use Rattle.access.proofs.objects.names.Reads as names-reads
 use Rattle.words.proofs.tuple.Tuple.count_of.Reads as count-of-reads
 use Rattle.words.proofs.tuple.Tuple.index_of.Reads as index-of-reads

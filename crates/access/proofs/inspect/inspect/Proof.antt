@@ -1,4 +1,4 @@
--- `access::objects::inspect` meets its contract, test by test; an object that is named lies in the heap.
+-- `access::inspect::inspect` meets its contract, test by test; an object that is named lies in the heap.
 use Prim.Native.Nat.{_<_}
 use borrow.Author.Tests.{eq-eqb, ne-eqb, le-leb, lt-leb, not-false}
 use mathlib.Core.Path.{sym, ap, _∙_}
@@ -11,10 +11,10 @@ use Rattle.model.specs.Words.{lent}
 use Rattle.model.specs.Calls.{inspect}
 use Rattle.access.proofs.NamedObjects.{free-in-heap, header-in, inspect-integer, inspect-object}
 use borrow.Author.Needs.{needs}
-use Rattle.access.proofs.objects.inspect.Statement.{statement}
-use Rattle.access.proofs.objects.inspect.Tie as tie
-use Rattle.access.proofs.objects.inspect.Reads as reads
-use Rattle.access.proofs.objects.inspect.Lts as lts
+use Rattle.access.proofs.inspect.inspect.Statement.{statement}
+use Rattle.access.proofs.inspect.inspect.Tie as tie
+use Rattle.access.proofs.inspect.inspect.Reads as reads
+use Rattle.access.proofs.inspect.inspect.Lts as lts
 use Rattle.access.proofs.answers.say.Reads as say-reads
 use Rattle.access.proofs.integers.untag.Reads as untag-reads
 use Rattle.access.proofs.objects.names.Reads as names-reads

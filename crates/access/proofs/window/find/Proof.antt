@@ -1,4 +1,4 @@
--- `access::objects::find` meets its contract, test by test; an object that is named lies in the heap.
+-- `access::window::find` meets its contract, test by test; an object that is named lies in the heap.
 use Prim.Native.Nat.{_<_}
 use borrow.Author.Tests.{le-leb, lt-leb, not-false}
 use mathlib.Core.Path.{sym, ap, _∙_}
@@ -8,10 +8,10 @@ use Rattle.model.specs.Words.{lent}
 use Rattle.model.specs.Window.{window}
 use Rattle.access.proofs.NamedObjects.{free-in-heap, header-in}
 use borrow.Author.Needs.{needs}
-use Rattle.access.proofs.objects.find.Statement.{statement}
-use Rattle.access.proofs.objects.find.Tie as tie
-use Rattle.access.proofs.objects.find.Reads as reads
-use Rattle.access.proofs.objects.find.Lts as lts
+use Rattle.access.proofs.window.find.Statement.{statement}
+use Rattle.access.proofs.window.find.Tie as tie
+use Rattle.access.proofs.window.find.Reads as reads
+use Rattle.access.proofs.window.find.Lts as lts
 use Rattle.access.proofs.objects.names.Reads as names-reads
 use Rattle.words.proofs.shape.bad_shape.Reads as bad-shape-reads
 use Rattle.words.proofs.tuple.Tuple.count_of.Reads as count-of-reads

@@ -1,11 +1,11 @@
--- `access::fields::is_of_kind` meets its contract, kind by kind.
+-- `access::objects::is_of_kind` meets its contract, kind by kind.
 use mathlib.Core.Path.{ap}
 use mathlib.Core.Bool.{not}
 use borrow.Author.Needs.{needs}
-use Rattle.access.proofs.fields.is_of_kind.Statement.{statement}
-use Rattle.access.proofs.fields.is_of_kind.Tie as tie
-use Rattle.access.proofs.fields.is_of_kind.Reads as reads
-use Rattle.access.proofs.fields.is_of_kind.Lts as lts
+use Rattle.access.proofs.objects.is_of_kind.Statement.{statement}
+use Rattle.access.proofs.objects.is_of_kind.Tie as tie
+use Rattle.access.proofs.objects.is_of_kind.Reads as reads
+use Rattle.access.proofs.objects.is_of_kind.Lts as lts
 use Rattle.words.proofs.tuple.Tuple.is_traced.Reads as is-traced-reads
 
 is-traced-requires : tie.Need-is-traced-requires
