@@ -6,17 +6,13 @@ use mathlib.Core.Bool.{true, false, _&&_}
 use mathlib.Core.List.{List}
 use lib.Dec.{ltb, leb, eqb}
 use lib.ListN.{length}
-use borrow.Author.Tests.{leb-true, eq-eqb, ne-eqb, lt-ltb, le-leb, lt-leb}
+use borrow.Author.Tests.{leb-true, eq-eqb, lt-ltb, le-leb}
 use Rattle.model.specs.declared.Record.{Record}
-use Rattle.model.specs.declared.Answer.the-variants as Says
 use Rattle.model.specs.Words.{State, at, lent, firstWord, free}
-use Rattle.model.specs.Values.{isAddress, untag}
+use Rattle.model.specs.Values.{isAddress}
 use Rattle.model.specs.Headers.{Layout}
-use Rattle.model.specs.Objects.{index, kind, fieldCount, size, names}
+use Rattle.model.specs.Objects.{index, fieldCount, size, names}
 use Rattle.model.specs.Shape.{badShape}
-use Rattle.model.specs.Answers.{says, refuse}
-use Rattle.model.specs.Changes.{rootWord}
-use Rattle.model.specs.Calls.{inspect}
 use Rattle.model.proofs.Tests.{and-both}
 use Rattle.model.proofs.Shape.{shaped, first-in}
 use Rattle.access.specs.Leaves.{FreeInHeap}
@@ -45,15 +41,6 @@ module _ (Y : Layout) where
   pub header-in : (H R : List ℕ) (q : Record) (w : ℕ) → FreeInHeap H q → names Y (lent H R q) w ≡ true → index Y w < length H
   header-in H R q w g h = omega (arith, named-ends (lent H R q) w h)
 
-  -- what inspect says of a word that is odd, and of one that names an object
-  pub inspect-integer : (s : State) (r : ℕ) → badShape s ≡ false → r < length (s .roots) → rootWord s r % 2 ≡ 1
-      → says (Says.Integer (untag (rootWord s r))) s ≡ inspect Y r s
-  unfolding inspect refuse
-  inspect-integer s r h l o = simp (h, lt-leb (length (s .roots)) r l, eq-eqb (rootWord s r % 2) 1 o)
-
-  pub inspect-object : (s : State) (r i : ℕ) → i ≡ index Y (rootWord s r) → badShape s ≡ false → r < length (s .roots)
-      → (rootWord s r % 2 ≡ 1 → ⊥) → (rootWord s r ≡ 0 → ⊥) → names Y s (rootWord s r) ≡ true
-      → says (Says.Object (kind Y (s .heap) i) (fieldCount Y (s .heap) i)) s ≡ inspect Y r s
-  unfolding inspect refuse
-  inspect-object s r i e h l o z n =
-      simp (sym e, h, lt-leb (length (s .roots)) r l, ne-eqb (rootWord s r % 2) 1 o, ne-eqb (rootWord s r) 0 z, n)
+  -- the same where SHAPE was tested, of the index as the code has it
+  pub header-below : (s : State) (w i : ℕ) → i ≡ index Y w → badShape s ≡ false → names Y s w ≡ true → i < length (s .heap)
+  header-below s w i e h n = rw e (header-in (s .heap) (s .roots) (s .«record») w (free-in-heap s h) n)

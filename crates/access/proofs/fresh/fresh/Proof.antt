@@ -1,7 +1,7 @@
 -- `access::fresh::fresh` meets its contract: what `clear` leaves of all the words is zeros.
 use mathlib.Core.Path.{sym, _∙_}
-use Rattle.model.specs.Answers.{refuse}
 use Rattle.model.specs.Calls as Calls
+use Rattle.access.proofs.Refusing.{said, applies, passes}
 use Rattle.access.proofs.FreshHeap.{cleared-all}
 use borrow.Author.Needs.{needs}
 use Rattle.access.proofs.fresh.fresh.Statement.{statement}
@@ -19,8 +19,8 @@ say-requires : tie.Need-say-requires
 say-requires c κs = search needs
 
 returns : tie.Need-returns
-unfolding Calls.fresh refuse
-returns c = simp (c .say .ensures, sym (c .before .before .bad-length .ensures) ∙ c .before .if1 .taken)
+unfolding Calls.fresh
+returns c = said _ _ (c .say .ensures) (applies _ (sym (c .before .before .bad-length .ensures) ∙ c .before .if1 .taken))
 
 clear-requires : tie.Need-clear-requires
 clear-requires c κs = search needs
@@ -32,8 +32,8 @@ same-length : tie.Need-same-length
 same-length c = search needs
 
 returns-2 : tie.Need-returns-2
-unfolding Calls.fresh refuse
-returns-2 c = simp (c .say2 .ensures, sym (c .before .before .before .before .before .before .bad-length .ensures) ∙ c .before .before .before .before .before .if1 .left, c .before .before .before .clear .ensures, cleared-all)
+unfolding Calls.fresh
+returns-2 c = said _ _ (c .say2 .ensures) (passes _ _ (sym (c .before .before .before .before .before .before .bad-length .ensures) ∙ c .before .before .before .before .before .if1 .left) (rw (c .before .before .before .clear .ensures, cleared-all)))
 
 pub fresh-spec : {M : Type 1} → statement M
 fresh-spec =

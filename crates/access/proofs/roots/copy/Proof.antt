@@ -1,10 +1,9 @@
 -- `access::roots::copy` meets its contract, test by test; both root numbers are then below the number of roots.
 use Prim.Native.Nat.{_<_}
 use lib.ListN.{length}
-use borrow.Author.Tests.{le-leb, lt-leb}
-use mathlib.Core.Path.{sym, _∙_}
-use Rattle.model.specs.Answers.{refuse}
+use mathlib.Core.Path.{refl, sym, _∙_}
 use Rattle.model.specs.Calls.{copy}
+use Rattle.access.proofs.Refusing.{said, applies, passes}
 use Rattle.access.proofs.RootNumbers.{both-below}
 use borrow.Author.Needs.{needs}
 use Rattle.access.proofs.roots.copy.Statement.{statement}
@@ -25,8 +24,8 @@ say-requires : tie.Need-say-requires
 say-requires c κs = search needs
 
 returns : tie.Need-returns
-unfolding copy refuse
-returns c = simp (c .say .ensures, sym (c .before .before .bad-shape .ensures) ∙ c .before .if1 .taken)
+unfolding copy
+returns c = said _ _ (c .say .ensures) (applies _ (sym (c .before .before .bad-shape .ensures) ∙ c .before .if1 .taken))
 
 no-root-requires : tie.Need-no-root-requires
 no-root-requires c κs = search needs
@@ -35,8 +34,8 @@ say-requires-2 : tie.Need-say-requires-2
 say-requires-2 c κs = search needs
 
 returns-2 : tie.Need-returns-2
-unfolding copy refuse
-returns-2 c = simp (c .say2 .ensures, sym (c .before .before .before .before .bad-shape .ensures) ∙ c .before .before .before .if1 .left, sym (c .before .before .no-root .ensures) ∙ c .before .if2 .taken)
+unfolding copy
+returns-2 c = said _ _ (c .say2 .ensures) (passes _ _ (sym (c .before .before .before .before .bad-shape .ensures) ∙ c .before .before .before .if1 .left) (applies _ (sym (c .before .before .no-root .ensures) ∙ c .before .if2 .taken)))
 
 mul-roots : tie.Need-mul-roots
 mul-roots c = let b = below c in search needs
@@ -57,8 +56,8 @@ same-length : tie.Need-same-length
 same-length c = search needs
 
 returns-3 : tie.Need-returns-3
-unfolding copy refuse
-returns-3 c = simp (c .say3 .ensures, sym (c .before .before .before .before .before .bad-shape .ensures) ∙ c .before .before .before .before .if1 .left, sym (c .before .before .before .no-root .ensures) ∙ c .before .before .if2 .left)
+unfolding copy
+returns-3 c = said _ _ (c .say3 .ensures) (passes _ _ (sym (c .before .before .before .before .before .bad-shape .ensures) ∙ c .before .before .before .before .if1 .left) (passes _ _ (sym (c .before .before .before .no-root .ensures) ∙ c .before .before .if2 .left) refl))
 
 pub copy-spec : {M : Type 1} → statement M
 copy-spec =

@@ -3,8 +3,8 @@ use Prim.Native.Nat.{_<_}
 use lib.ListN.{length}
 use borrow.Author.Tests.{eq-eqb, ne-eqb}
 use mathlib.Core.Path.{sym, _∙_}
-use Rattle.model.specs.Answers.{refuse}
 use Rattle.model.specs.Calls.{same}
+use Rattle.access.proofs.Refusing.{said, applies, passes}
 use Rattle.access.proofs.RootNumbers.{both-below}
 use borrow.Author.Needs.{needs}
 use Rattle.access.proofs.roots.same.Statement.{statement}
@@ -25,8 +25,8 @@ say-requires : tie.Need-say-requires
 say-requires c κs = search needs
 
 returns : tie.Need-returns
-unfolding same refuse
-returns c = simp (c .say .ensures, sym (c .before .before .bad-shape .ensures) ∙ c .before .if1 .taken)
+unfolding same
+returns c = said _ _ (c .say .ensures) (applies _ (sym (c .before .before .bad-shape .ensures) ∙ c .before .if1 .taken))
 
 no-root-requires : tie.Need-no-root-requires
 no-root-requires c κs = search needs
@@ -35,8 +35,8 @@ say-requires-2 : tie.Need-say-requires-2
 say-requires-2 c κs = search needs
 
 returns-2 : tie.Need-returns-2
-unfolding same refuse
-returns-2 c = simp (c .say2 .ensures, sym (c .before .before .before .before .bad-shape .ensures) ∙ c .before .before .before .if1 .left, sym (c .before .before .no-root .ensures) ∙ c .before .if2 .taken)
+unfolding same
+returns-2 c = said _ _ (c .say2 .ensures) (passes _ _ (sym (c .before .before .before .before .bad-shape .ensures) ∙ c .before .before .before .if1 .left) (applies _ (sym (c .before .before .no-root .ensures) ∙ c .before .if2 .taken)))
 
 mul-if3 : tie.Need-mul-if3
 mul-if3 c = let b = below c in search needs
@@ -54,15 +54,15 @@ say-requires-3 : tie.Need-say-requires-3
 say-requires-3 c κs = search needs
 
 returns-3 : tie.Need-returns-3
-unfolding same refuse
-returns-3 c = simp (c .say3 .ensures, sym (c .before .before .before .before .before .before .before .bad-shape .ensures) ∙ c .before .before .before .before .before .before .if1 .left, sym (c .before .before .before .before .before .no-root .ensures) ∙ c .before .before .before .before .if2 .left, eq-eqb _ _ (c .before .if3 .taken))
+unfolding same
+returns-3 c = said _ _ (c .say3 .ensures) (passes _ _ (sym (c .before .before .before .before .before .before .before .bad-shape .ensures) ∙ c .before .before .before .before .before .before .if1 .left) (passes _ _ (sym (c .before .before .before .before .before .no-root .ensures) ∙ c .before .before .before .before .if2 .left) (rw (eq-eqb _ _ (c .before .if3 .taken)))))
 
 say-requires-4 : tie.Need-say-requires-4
 say-requires-4 c κs = search needs
 
 returns-4 : tie.Need-returns-4
-unfolding same refuse
-returns-4 c = simp (c .say4 .ensures, sym (c .before .before .before .before .before .before .before .bad-shape .ensures) ∙ c .before .before .before .before .before .before .if1 .left, sym (c .before .before .before .before .before .no-root .ensures) ∙ c .before .before .before .before .if2 .left, ne-eqb _ _ (c .before .if3 .left))
+unfolding same
+returns-4 c = said _ _ (c .say4 .ensures) (passes _ _ (sym (c .before .before .before .before .before .before .before .bad-shape .ensures) ∙ c .before .before .before .before .before .before .if1 .left) (passes _ _ (sym (c .before .before .before .before .before .no-root .ensures) ∙ c .before .before .before .before .if2 .left) (rw (ne-eqb _ _ (c .before .if3 .left)))))
 
 pub same-spec : {M : Type 1} → statement M
 same-spec =

@@ -2,8 +2,9 @@
 use borrow.Author.Tests.{le-leb, lt-leb}
 use mathlib.Core.Path.{sym, ap, _∙_}
 use mir.ValLaws.{toZ-ofZ}
-use Rattle.model.specs.Answers.{refuse}
+use mathlib.Core.Bool.{not}
 use Rattle.model.specs.Calls.{setInteger}
+use Rattle.access.proofs.Refusing.{said, applies, passes}
 use Rattle.access.specs.Leaves.{tagged}
 use Rattle.access.proofs.TaggedIntegers.{tagged-word, tagged-none}
 use borrow.Author.Needs.{needs}
@@ -22,15 +23,15 @@ say-requires : tie.Need-say-requires
 say-requires c κs = search needs
 
 returns : tie.Need-returns
-unfolding setInteger refuse
-returns c = simp (c .say .ensures, sym (c .before .before .bad-shape .ensures) ∙ c .before .if1 .taken)
+unfolding setInteger
+returns c = said _ _ (c .say .ensures) (applies _ (sym (c .before .before .bad-shape .ensures) ∙ c .before .if1 .taken))
 
 say-requires-2 : tie.Need-say-requires-2
 say-requires-2 c κs = search needs
 
 returns-2 : tie.Need-returns-2
-unfolding setInteger refuse
-returns-2 c = simp (c .say2 .ensures, sym (c .before .before .before .bad-shape .ensures) ∙ c .before .before .if1 .left, le-leb _ _ (c .before .if2 .taken))
+unfolding setInteger
+returns-2 c = said _ _ (c .say2 .ensures) (passes _ _ (sym (c .before .before .before .bad-shape .ensures) ∙ c .before .before .if1 .left) (applies _ (le-leb _ _ (c .before .if2 .taken))))
 
 tag-requires : tie.Need-tag-requires
 tag-requires c κs = search needs
@@ -57,12 +58,12 @@ same-length : tie.Need-same-length
 same-length c = search needs
 
 returns-3 : tie.Need-returns-3
-unfolding setInteger refuse
-returns-3 c = let t = tagged-word (c .before .before .before .before .before .before .before .before .before .before .args .value) _ (sym (c .before .before .before .before .tag .ensures ∙ ap tagged (toZ-ofZ _ _ (c .before .before .before .before .before .before .before .before .before .before .fits .value))) ∙ c .before .before .tagged .given .1) in simp (c .say3 .ensures, sym (c .before .before .before .before .before .before .before .bad-shape .ensures) ∙ c .before .before .before .before .before .before .if1 .left, lt-leb _ _ (c .before .before .before .before .before .if2 .left), t .0, t .1)
+unfolding setInteger
+returns-3 c = let t = tagged-word (c .before .before .before .before .before .before .before .before .before .before .args .value) _ (sym (c .before .before .before .before .tag .ensures ∙ ap tagged (toZ-ofZ _ _ (c .before .before .before .before .before .before .before .before .before .before .fits .value))) ∙ c .before .before .tagged .given .1) in said _ _ (c .say3 .ensures) (passes _ _ (sym (c .before .before .before .before .before .before .before .bad-shape .ensures) ∙ c .before .before .before .before .before .before .if1 .left) (passes _ _ (lt-leb _ _ (c .before .before .before .before .before .if2 .left)) (passes _ _ (ap not (t .0)) (rw (t .1)))))
 
 returns-4 : tie.Need-returns-4
-unfolding setInteger refuse
-returns-4 c = simp (c .say4 .ensures, sym (c .before .before .before .before .before .before .bad-shape .ensures) ∙ c .before .before .before .before .before .if1 .left, lt-leb _ _ (c .before .before .before .before .if2 .left), tagged-none (c .before .before .before .before .before .before .before .before .before .args .value) (sym (c .before .before .before .tag .ensures ∙ ap tagged (toZ-ofZ _ _ (c .before .before .before .before .before .before .before .before .before .fits .value))) ∙ c .before .enum-told .given .1))
+unfolding setInteger
+returns-4 c = said _ _ (c .say4 .ensures) (passes _ _ (sym (c .before .before .before .before .before .before .bad-shape .ensures) ∙ c .before .before .before .before .before .if1 .left) (passes _ _ (lt-leb _ _ (c .before .before .before .before .if2 .left)) (applies _ (ap not (tagged-none (c .before .before .before .before .before .before .before .before .before .args .value) (sym (c .before .before .before .tag .ensures ∙ ap tagged (toZ-ofZ _ _ (c .before .before .before .before .before .before .before .before .before .fits .value))) ∙ c .before .enum-told .given .1))))))
 
 pub set-integer-spec : {M : Type 1} → statement M
 set-integer-spec =

@@ -1,8 +1,8 @@
 -- `access::roots::set_null` meets its contract, test by test.
 use borrow.Author.Tests.{le-leb, lt-leb}
-use mathlib.Core.Path.{sym, _∙_}
-use Rattle.model.specs.Answers.{refuse}
+use mathlib.Core.Path.{refl, sym, _∙_}
 use Rattle.model.specs.Calls.{setNull}
+use Rattle.access.proofs.Refusing.{said, applies, passes}
 use borrow.Author.Needs.{needs}
 use Rattle.access.proofs.roots.set_null.Statement.{statement}
 use Rattle.access.proofs.roots.set_null.Tie as tie
@@ -18,15 +18,15 @@ say-requires : tie.Need-say-requires
 say-requires c κs = search needs
 
 returns : tie.Need-returns
-unfolding setNull refuse
-returns c = simp (c .say .ensures, sym (c .before .before .bad-shape .ensures) ∙ c .before .if1 .taken)
+unfolding setNull
+returns c = said _ _ (c .say .ensures) (applies _ (sym (c .before .before .bad-shape .ensures) ∙ c .before .if1 .taken))
 
 say-requires-2 : tie.Need-say-requires-2
 say-requires-2 c κs = search needs
 
 returns-2 : tie.Need-returns-2
-unfolding setNull refuse
-returns-2 c = simp (c .say2 .ensures, sym (c .before .before .before .bad-shape .ensures) ∙ c .before .before .if1 .left, le-leb _ _ (c .before .if2 .taken))
+unfolding setNull
+returns-2 c = said _ _ (c .say2 .ensures) (passes _ _ (sym (c .before .before .before .bad-shape .ensures) ∙ c .before .before .if1 .left) (applies _ (le-leb _ _ (c .before .if2 .taken))))
 
 mul-roots : tie.Need-mul-roots
 mul-roots c = search needs
@@ -41,8 +41,8 @@ same-length : tie.Need-same-length
 same-length c = search needs
 
 returns-3 : tie.Need-returns-3
-unfolding setNull refuse
-returns-3 c = simp (c .say3 .ensures, sym (c .before .before .before .bad-shape .ensures) ∙ c .before .before .if1 .left, lt-leb _ _ (c .before .if2 .left))
+unfolding setNull
+returns-3 c = said _ _ (c .say3 .ensures) (passes _ _ (sym (c .before .before .before .bad-shape .ensures) ∙ c .before .before .if1 .left) (passes _ _ (lt-leb _ _ (c .before .if2 .left)) refl))
 
 pub set-null-spec : {M : Type 1} → statement M
 set-null-spec =

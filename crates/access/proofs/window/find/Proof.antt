@@ -6,7 +6,7 @@ use mathlib.Core.Bool.{not}
 use lib.ListN.{length}
 use Rattle.model.specs.Words.{lent}
 use Rattle.model.specs.Window.{window}
-use Rattle.access.proofs.NamedObjects.{free-in-heap, header-in}
+use Rattle.access.proofs.NamedObjects.{free-in-heap, header-below}
 use borrow.Author.Needs.{needs}
 use Rattle.access.proofs.window.find.Statement.{statement}
 use Rattle.access.proofs.window.find.Tie as tie
@@ -18,7 +18,7 @@ use Rattle.words.proofs.tuple.Tuple.count_of.Reads as count-of-reads
 use Rattle.words.proofs.tuple.Tuple.index_of.Reads as index-of-reads
 
 below : (c : tie.After-index-of) → c .index-of .result .0 < length (c .before .before .before .before .before .before .before .before .before .args .heap .now)
-below c = rw (c .index-of .ensures) (header-in _ _ (c .before .before .before .before .before .before .before .before .before .args .roots .now) _ _ (free-in-heap (lent (c .before .before .before .before .before .before .before .before .before .args .heap .now) (c .before .before .before .before .before .before .before .before .before .args .roots .now) (c .before .before .before .before .before .before .before .before .before .args .«record»)) (sym (c .before .before .before .before .before .before .bad-shape .ensures) ∙ c .before .before .before .before .before .if1 .left)) (sym (c .before .before .names .ensures (c .before .before .before .before .before .before .before .before .before .args .roots .now)) ∙ not-false _ (c .before .if3 .left)))
+below c = header-below _ (lent (c .before .before .before .before .before .before .before .before .before .args .heap .now) (c .before .before .before .before .before .before .before .before .before .args .roots .now) (c .before .before .before .before .before .before .before .before .before .args .«record»)) _ _ (c .index-of .ensures) (sym (c .before .before .before .before .before .before .bad-shape .ensures) ∙ c .before .before .before .before .before .if1 .left) (sym (c .before .before .names .ensures (c .before .before .before .before .before .before .before .before .before .args .roots .now)) ∙ not-false _ (c .before .if3 .left))
 
 bad-shape-requires : tie.Need-bad-shape-requires
 bad-shape-requires c κs = search needs
