@@ -1,0 +1,71 @@
+-- `access::fields::load` meets its contract: the call is what `reach` answers, read as a call's outcome.
+use mathlib.Core.Path.{sym, _∙_}
+use Rattle.model.specs.Words.{lent}
+use Rattle.access.proofs.ReachedFields.{Reaches, reaches, load-reached}
+use borrow.Author.Needs.{needs}
+use Rattle.access.proofs.fields.load.Statement.{statement}
+use Rattle.access.proofs.fields.load.Tie as tie
+use Rattle.access.proofs.fields.load.Reads as reads
+use Rattle.access.proofs.fields.load.Lts as lts
+use Rattle.access.proofs.answers.say.Reads as say-reads
+use Rattle.access.proofs.fields.reach.Reads as reach-reads
+
+reached-at : (c : tie.After-found) → Reaches (lent (c .before .before .before .before .before .before .args .heap .now) (c .before .before .before .before .before .before .args .roots .now) (c .before .before .before .before .before .before .args .«record»)) (c .before .before .before .before .before .before .args .object) (c .before .before .before .before .before .before .args .to) (c .found .given .0 .0)
+reached-at c = reaches _ _ _ _ _ (lent (c .before .before .before .before .before .before .args .heap .now) (c .before .before .before .before .before .before .args .roots .now) (c .before .before .before .before .before .before .args .«record»)) _ (sym (c .before .before .reach .ensures) ∙ c .found .given .1)
+
+reach-requires : tie.Need-reach-requires
+reach-requires c κs = search needs
+
+enum-known-found : tie.Need-enum-known-found
+enum-known-found c = search needs
+
+mul-roots : tie.Need-mul-roots
+mul-roots c = let r = reached-at (c .before) in search needs
+
+shared-slice-read-roots : tie.Need-shared-slice-read-roots
+shared-slice-read-roots c = reached-at (c .before .before) .field
+
+mul-roots-2 : tie.Need-mul-roots-2
+mul-roots-2 c = let r = reached-at (c .before .before) in search needs
+
+slice-write-roots : tie.Need-slice-write-roots
+slice-write-roots c = reached-at (c .before .before) .other
+
+say-requires : tie.Need-say-requires
+say-requires c κs = search needs
+
+enum-known-found-2 : tie.Need-enum-known-found-2
+enum-known-found-2 c = search needs
+
+say-requires-2 : tie.Need-say-requires-2
+say-requires-2 c κs = search needs
+
+same-length : tie.Need-same-length
+same-length c = search needs
+
+returns : tie.Need-returns
+returns c = rw (c .say .ensures, load-reached, sym (c .before .before .before .before .before .reach .ensures) ∙ c .before .before .before .found .given .1)
+
+same-length-2 : tie.Need-same-length-2
+same-length-2 c = search needs
+
+returns-2 : tie.Need-returns-2
+returns-2 c = rw (c .say2 .ensures, load-reached, sym (c .before .before .before .before .reach .ensures) ∙ c .before .before .found2 .given .1)
+
+pub load-spec : {M : Type 1} → statement M
+load-spec =
+    tie.close
+    (tie.spec
+    reach-requires
+    enum-known-found
+    mul-roots
+    shared-slice-read-roots
+    mul-roots-2
+    slice-write-roots
+    say-requires
+    enum-known-found-2
+    say-requires-2
+    same-length
+    returns
+    same-length-2
+    returns-2)

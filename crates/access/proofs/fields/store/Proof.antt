@@ -1,0 +1,71 @@
+-- `access::fields::store` meets its contract: the call is what `reach` answers, read as a call's outcome.
+use mathlib.Core.Path.{sym, _∙_}
+use Rattle.model.specs.Words.{lent}
+use Rattle.access.proofs.ReachedFields.{Reaches, reaches, store-reached}
+use borrow.Author.Needs.{needs}
+use Rattle.access.proofs.fields.store.Statement.{statement}
+use Rattle.access.proofs.fields.store.Tie as tie
+use Rattle.access.proofs.fields.store.Reads as reads
+use Rattle.access.proofs.fields.store.Lts as lts
+use Rattle.access.proofs.answers.say.Reads as say-reads
+use Rattle.access.proofs.fields.reach.Reads as reach-reads
+
+reached-at : (c : tie.After-found) → Reaches (lent (c .before .before .before .before .before .before .args .heap .now) (c .before .before .before .before .before .before .args .roots .now) (c .before .before .before .before .before .before .args .«record»)) (c .before .before .before .before .before .before .args .object) (c .before .before .before .before .before .before .args .from) (c .found .given .0 .0)
+reached-at c = reaches _ _ _ _ _ (lent (c .before .before .before .before .before .before .args .heap .now) (c .before .before .before .before .before .before .args .roots .now) (c .before .before .before .before .before .before .args .«record»)) _ (sym (c .before .before .reach .ensures) ∙ c .found .given .1)
+
+reach-requires : tie.Need-reach-requires
+reach-requires c κs = search needs
+
+enum-known-found : tie.Need-enum-known-found
+enum-known-found c = search needs
+
+mul-heap : tie.Need-mul-heap
+mul-heap c = let r = reached-at (c .before) in search needs
+
+shared-slice-read-heap : tie.Need-shared-slice-read-heap
+shared-slice-read-heap c = reached-at (c .before .before) .other
+
+mul-heap-2 : tie.Need-mul-heap-2
+mul-heap-2 c = let r = reached-at (c .before .before) in search needs
+
+slice-write-heap : tie.Need-slice-write-heap
+slice-write-heap c = reached-at (c .before .before) .field
+
+say-requires : tie.Need-say-requires
+say-requires c κs = search needs
+
+enum-known-found-2 : tie.Need-enum-known-found-2
+enum-known-found-2 c = search needs
+
+say-requires-2 : tie.Need-say-requires-2
+say-requires-2 c κs = search needs
+
+same-length : tie.Need-same-length
+same-length c = search needs
+
+returns : tie.Need-returns
+returns c = rw (c .say .ensures, store-reached, sym (c .before .before .before .before .before .reach .ensures) ∙ c .before .before .before .found .given .1)
+
+same-length-2 : tie.Need-same-length-2
+same-length-2 c = search needs
+
+returns-2 : tie.Need-returns-2
+returns-2 c = rw (c .say2 .ensures, store-reached, sym (c .before .before .before .before .reach .ensures) ∙ c .before .before .found2 .given .1)
+
+pub store-spec : {M : Type 1} → statement M
+store-spec =
+    tie.close
+    (tie.spec
+    reach-requires
+    enum-known-found
+    mul-heap
+    shared-slice-read-heap
+    mul-heap-2
+    slice-write-heap
+    say-requires
+    enum-known-found-2
+    say-requires-2
+    same-length
+    returns
+    same-length-2
+    returns-2)

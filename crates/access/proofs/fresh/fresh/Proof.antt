@@ -1,0 +1,48 @@
+-- `access::fresh::fresh` meets its contract: what `clear` leaves of all the words is zeros.
+use mathlib.Core.Path.{sym, _∙_}
+use Rattle.model.specs.Calls as Calls
+use Rattle.access.proofs.Refusing.{said, applies, passes}
+use Rattle.access.proofs.FreshHeap.{cleared-all}
+use borrow.Author.Needs.{needs}
+use Rattle.access.proofs.fresh.fresh.Statement.{statement}
+use Rattle.access.proofs.fresh.fresh.Tie as tie
+use Rattle.access.proofs.fresh.fresh.Reads as reads
+use Rattle.access.proofs.fresh.fresh.Lts as lts
+use Rattle.access.proofs.answers.say.Reads as say-reads
+use Rattle.words.proofs.runs.clear.Reads as clear-reads
+use Rattle.words.proofs.shape.bad_length.Reads as bad-length-reads
+
+bad-length-requires : tie.Need-bad-length-requires
+bad-length-requires c κs = search needs
+
+say-requires : tie.Need-say-requires
+say-requires c κs = search needs
+
+returns : tie.Need-returns
+unfolding Calls.fresh
+returns c = said _ _ (c .say .ensures) (applies _ (sym (c .before .before .bad-length .ensures) ∙ c .before .if1 .taken))
+
+clear-requires : tie.Need-clear-requires
+clear-requires c κs = search needs
+
+say-requires-2 : tie.Need-say-requires-2
+say-requires-2 c κs = search needs
+
+same-length : tie.Need-same-length
+same-length c = search needs
+
+returns-2 : tie.Need-returns-2
+unfolding Calls.fresh
+returns-2 c = said _ _ (c .say2 .ensures) (passes _ _ (sym (c .before .before .before .before .before .before .bad-length .ensures) ∙ c .before .before .before .before .before .if1 .left) (rw (c .before .before .before .clear .ensures, cleared-all)))
+
+pub fresh-spec : {M : Type 1} → statement M
+fresh-spec =
+    tie.close
+    (tie.spec
+    bad-length-requires
+    say-requires
+    returns
+    clear-requires
+    say-requires-2
+    same-length
+    returns-2)

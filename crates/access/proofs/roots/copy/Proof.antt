@@ -1,0 +1,78 @@
+-- `access::roots::copy` meets its contract, test by test; both root numbers are then below the number of roots.
+use Prim.Native.Nat.{_<_}
+use lib.ListN.{length}
+use mathlib.Core.Path.{refl, sym, _∙_}
+use Rattle.model.specs.Calls.{copy}
+use Rattle.access.proofs.Refusing.{said, applies, passes}
+use Rattle.access.proofs.RootNumbers.{both-below}
+use borrow.Author.Needs.{needs}
+use Rattle.access.proofs.roots.copy.Statement.{statement}
+use Rattle.access.proofs.roots.copy.Tie as tie
+use Rattle.access.proofs.roots.copy.Reads as reads
+use Rattle.access.proofs.roots.copy.Lts as lts
+use Rattle.access.proofs.answers.say.Reads as say-reads
+use Rattle.access.proofs.root_numbers.no_root.Reads as no-root-reads
+use Rattle.words.proofs.shape.bad_shape.Reads as bad-shape-reads
+
+below : (c : tie.Else2) → (c .before .before .before .before .before .before .args .from < length (c .before .before .before .before .before .before .args .roots .now)) × (c .before .before .before .before .before .before .args .to < length (c .before .before .before .before .before .before .args .roots .now))
+below c = both-below _ _ _ (sym (c .before .no-root .ensures) ∙ c .if2 .left)
+
+bad-shape-requires : tie.Need-bad-shape-requires
+bad-shape-requires c κs = search needs
+
+say-requires : tie.Need-say-requires
+say-requires c κs = search needs
+
+returns : tie.Need-returns
+unfolding copy
+returns c = said _ _ (c .say .ensures) (applies _ (sym (c .before .before .bad-shape .ensures) ∙ c .before .if1 .taken))
+
+no-root-requires : tie.Need-no-root-requires
+no-root-requires c κs = search needs
+
+say-requires-2 : tie.Need-say-requires-2
+say-requires-2 c κs = search needs
+
+returns-2 : tie.Need-returns-2
+unfolding copy
+returns-2 c = said _ _ (c .say2 .ensures) (passes _ _ (sym (c .before .before .before .before .bad-shape .ensures) ∙ c .before .before .before .if1 .left) (applies _ (sym (c .before .before .no-root .ensures) ∙ c .before .if2 .taken)))
+
+mul-roots : tie.Need-mul-roots
+mul-roots c = let b = below c in search needs
+
+slice-read-roots : tie.Need-slice-read-roots
+slice-read-roots c = below (c .before) .0
+
+mul-roots-2 : tie.Need-mul-roots-2
+mul-roots-2 c = let b = below (c .before) in search needs
+
+slice-write-roots : tie.Need-slice-write-roots
+slice-write-roots c = below (c .before) .1
+
+say-requires-3 : tie.Need-say-requires-3
+say-requires-3 c κs = search needs
+
+same-length : tie.Need-same-length
+same-length c = search needs
+
+returns-3 : tie.Need-returns-3
+unfolding copy
+returns-3 c = said _ _ (c .say3 .ensures) (passes _ _ (sym (c .before .before .before .before .before .bad-shape .ensures) ∙ c .before .before .before .before .if1 .left) (passes _ _ (sym (c .before .before .before .no-root .ensures) ∙ c .before .before .if2 .left) refl))
+
+pub copy-spec : {M : Type 1} → statement M
+copy-spec =
+    tie.close
+    (tie.spec
+    bad-shape-requires
+    say-requires
+    returns
+    no-root-requires
+    say-requires-2
+    returns-2
+    mul-roots
+    slice-read-roots
+    mul-roots-2
+    slice-write-roots
+    say-requires-3
+    same-length
+    returns-3)

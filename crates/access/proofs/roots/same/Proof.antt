@@ -1,0 +1,84 @@
+-- `access::roots::same` meets its contract, test by test; both root numbers are then below the number of roots.
+use Prim.Native.Nat.{_<_}
+use lib.ListN.{length}
+use borrow.Author.Tests.{eq-eqb, ne-eqb}
+use mathlib.Core.Path.{sym, _∙_}
+use Rattle.model.specs.Calls.{same}
+use Rattle.access.proofs.Refusing.{said, applies, passes}
+use Rattle.access.proofs.RootNumbers.{both-below}
+use borrow.Author.Needs.{needs}
+use Rattle.access.proofs.roots.same.Statement.{statement}
+use Rattle.access.proofs.roots.same.Tie as tie
+use Rattle.access.proofs.roots.same.Reads as reads
+use Rattle.access.proofs.roots.same.Lts as lts
+use Rattle.access.proofs.answers.say.Reads as say-reads
+use Rattle.access.proofs.root_numbers.no_root.Reads as no-root-reads
+use Rattle.words.proofs.shape.bad_shape.Reads as bad-shape-reads
+
+below : (c : tie.Else2) → (c .before .before .before .before .before .before .args .one < length (c .before .before .before .before .before .before .args .roots .now)) × (c .before .before .before .before .before .before .args .other < length (c .before .before .before .before .before .before .args .roots .now))
+below c = both-below _ _ _ (sym (c .before .no-root .ensures) ∙ c .if2 .left)
+
+bad-shape-requires : tie.Need-bad-shape-requires
+bad-shape-requires c κs = search needs
+
+say-requires : tie.Need-say-requires
+say-requires c κs = search needs
+
+returns : tie.Need-returns
+unfolding same
+returns c = said _ _ (c .say .ensures) (applies _ (sym (c .before .before .bad-shape .ensures) ∙ c .before .if1 .taken))
+
+no-root-requires : tie.Need-no-root-requires
+no-root-requires c κs = search needs
+
+say-requires-2 : tie.Need-say-requires-2
+say-requires-2 c κs = search needs
+
+returns-2 : tie.Need-returns-2
+unfolding same
+returns-2 c = said _ _ (c .say2 .ensures) (passes _ _ (sym (c .before .before .before .before .bad-shape .ensures) ∙ c .before .before .before .if1 .left) (applies _ (sym (c .before .before .no-root .ensures) ∙ c .before .if2 .taken)))
+
+mul-if3 : tie.Need-mul-if3
+mul-if3 c = let b = below c in search needs
+
+shared-slice-read-if3 : tie.Need-shared-slice-read-if3
+shared-slice-read-if3 c = below (c .before) .0
+
+mul-if3-2 : tie.Need-mul-if3-2
+mul-if3-2 c = let b = below (c .before) in search needs
+
+shared-slice-read-if3-2 : tie.Need-shared-slice-read-if3-2
+shared-slice-read-if3-2 c = below (c .before .before) .1
+
+say-requires-3 : tie.Need-say-requires-3
+say-requires-3 c κs = search needs
+
+returns-3 : tie.Need-returns-3
+unfolding same
+returns-3 c = said _ _ (c .say3 .ensures) (passes _ _ (sym (c .before .before .before .before .before .before .before .bad-shape .ensures) ∙ c .before .before .before .before .before .before .if1 .left) (passes _ _ (sym (c .before .before .before .before .before .no-root .ensures) ∙ c .before .before .before .before .if2 .left) (rw (eq-eqb _ _ (c .before .if3 .taken)))))
+
+say-requires-4 : tie.Need-say-requires-4
+say-requires-4 c κs = search needs
+
+returns-4 : tie.Need-returns-4
+unfolding same
+returns-4 c = said _ _ (c .say4 .ensures) (passes _ _ (sym (c .before .before .before .before .before .before .before .bad-shape .ensures) ∙ c .before .before .before .before .before .before .if1 .left) (passes _ _ (sym (c .before .before .before .before .before .no-root .ensures) ∙ c .before .before .before .before .if2 .left) (rw (ne-eqb _ _ (c .before .if3 .left)))))
+
+pub same-spec : {M : Type 1} → statement M
+same-spec =
+    tie.close
+    (tie.spec
+    bad-shape-requires
+    say-requires
+    returns
+    no-root-requires
+    say-requires-2
+    returns-2
+    mul-if3
+    shared-slice-read-if3
+    mul-if3-2
+    shared-slice-read-if3-2
+    say-requires-3
+    returns-3
+    say-requires-4
+    returns-4)

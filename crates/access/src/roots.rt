@@ -1,0 +1,84 @@
+// The calls on roots alone: set to an integer, set to null, copy, same. None looks at a heap word.
+ghost use mathlib.Core.Path.{_≡_};
+ghost use Rattle.model.specs.Words.{lent};
+ghost use Rattle.model.specs.Answers.{outcome};
+ghost use Rattle.model.specs.Calls as Calls;
+use super::answers::say;
+use super::integers::Tagged;
+use super::integers::tag;
+use super::root_numbers::no_root;
+use model::Answer;
+use model::Answered;
+use model::Record;
+use model::Refusal;
+use words::shape::bad_shape;
+
+// Root `to` gets an integer's word: done, or SHAPE, ROOT or RANGE. Leaves the heap and the record.
+pub fn set_integer(
+    heap: &[u32],
+    roots: &mut [u32],
+    record: Record,
+    to: usize,
+    value: i64,
+) -> Answered
+    ensures { λ r. ⌜ outcome r (now (heap .entry)) (now (roots .exit)) ≡ Calls.setInteger to value (lent (now (heap .entry)) (now (roots .entry)) «record») ⌝ }
+{
+    if bad_shape(heap.len(), roots.len(), record) {
+        return say(Answer::Refused(Refusal::Shape), record);
+    }
+    if roots.len() <= to {
+        return say(Answer::Refused(Refusal::Root), record);
+    }
+    let tagged = tag(value);
+    match tagged {
+        Tagged::Word(word) => {
+            roots[to] = word;
+            say(Answer::Done, record)
+        }
+        Tagged::OutOfRange => say(Answer::Refused(Refusal::Range), record),
+    }
+}
+
+// Root `to` gets null: done, or SHAPE or ROOT. Leaves the heap and the record.
+pub fn set_null(heap: &[u32], roots: &mut [u32], record: Record, to: usize) -> Answered
+    ensures { λ r. ⌜ outcome r (now (heap .entry)) (now (roots .exit)) ≡ Calls.setNull to (lent (now (heap .entry)) (now (roots .entry)) «record») ⌝ }
+{
+    if bad_shape(heap.len(), roots.len(), record) {
+        return say(Answer::Refused(Refusal::Shape), record);
+    }
+    if roots.len() <= to {
+        return say(Answer::Refused(Refusal::Root), record);
+    }
+    roots[to] = 0;
+    say(Answer::Done, record)
+}
+
+// Root `to` gets root `from`'s word, whatever it is: done, or SHAPE or ROOT. Leaves the heap and the record.
+pub fn copy(heap: &[u32], roots: &mut [u32], record: Record, from: usize, to: usize) -> Answered
+    ensures { λ r. ⌜ outcome r (now (heap .entry)) (now (roots .exit)) ≡ Calls.copy from to (lent (now (heap .entry)) (now (roots .entry)) «record») ⌝ }
+{
+    if bad_shape(heap.len(), roots.len(), record) {
+        return say(Answer::Refused(Refusal::Shape), record);
+    }
+    if no_root(roots.len(), from, to) {
+        return say(Answer::Refused(Refusal::Root), record);
+    }
+    roots[to] = roots[from];
+    say(Answer::Done, record)
+}
+
+// Whether two roots hold equal words: yes or no, or SHAPE or ROOT. Leaves all as it was.
+pub fn same(heap: &[u32], roots: &[u32], record: Record, one: usize, other: usize) -> Answered
+    ensures { λ r. ⌜ outcome r (now (heap .entry)) (now (roots .entry)) ≡ Calls.same one other (lent (now (heap .entry)) (now (roots .entry)) «record») ⌝ }
+{
+    if bad_shape(heap.len(), roots.len(), record) {
+        return say(Answer::Refused(Refusal::Shape), record);
+    }
+    if no_root(roots.len(), one, other) {
+        return say(Answer::Refused(Refusal::Root), record);
+    }
+    if roots[one] == roots[other] {
+        return say(Answer::Yes, record);
+    }
+    say(Answer::No, record)
+}
