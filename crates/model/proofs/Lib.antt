@@ -31,3 +31,4 @@ pub mod PlaceCall
 pub mod AllocateCall
 pub mod Stage
 pub mod During
+pub mod Middle
