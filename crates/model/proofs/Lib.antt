@@ -49,3 +49,4 @@ pub mod Demand1
 pub mod Laws
 pub mod Rivals
 pub mod Walks
+pub mod Middle

@@ -1,0 +1,62 @@
+-- `collector::collect_sound` meets its contract: the evacuation of a sound heap leaves what `collected` says.
+use native.Mathlib.Omega.{arith}
+use Rattle.model.proofs.Headers.{tuple-lawful}
+use Rattle.model.proofs.Shape.{Shaped}
+use Rattle.collector.proofs.Contract.{shape, may-evacuate, end-low, end-high, collect-is}
+use borrow.Author.Needs.{needs}
+use Rattle.collector.proofs.collect_sound.Statement.{statement}
+use Rattle.collector.proofs.collect_sound.Tie as tie
+use Rattle.collector.proofs.collect_sound.Reads as reads
+use Rattle.collector.proofs.collect_sound.Lts as lts
+use Rattle.collector.proofs.evacuate.Reads as evacuate-reads
+use Rattle.words.proofs.shape.first_of.Reads as first-of-reads
+use Rattle.words.proofs.shape.other_half.Reads as other-half-reads
+
+sub-words : tie.Need-sub-words
+sub-words c = let a = shape _ tuple-lawful _ (c .before .before .pre) in omega (arith, a .odd)
+
+other-half-requires : tie.Need-other-half-requires
+other-half-requires c κs = search needs
+
+first-of-requires : tie.Need-first-of-requires
+first-of-requires c κs = shape _ tuple-lawful _ (c .before .before .before .pre) .small
+
+first-of-requires-2 : tie.Need-first-of-requires-2
+first-of-requires-2 c κs = shape _ tuple-lawful _ (c .before .before .before .before .pre) .small
+
+sub-used : tie.Need-sub-used
+sub-used c = omega (arith, shape _ tuple-lawful _ (c .before .before .before .before .before .before .before .pre) .low, c .before .before .before .first-of .ensures)
+
+evacuate-requires : tie.Need-evacuate-requires
+evacuate-requires c κs = may-evacuate _ tuple-lawful _ (c .before .before .before .before .before .before .before .before .before .pre) _ _ _ (c .before .before .before .before .before .before .other-half .ensures) (c .before .before .before .before .before .first-of .ensures) (c .before .before .before .before .first-of2 .ensures)
+
+sub-t11 : tie.Need-sub-t11
+sub-t11 c = end-low _ tuple-lawful _ (c .before .before .before .before .before .before .before .before .before .before .before .before .before .before .before .before .pre) _ _ _ (c .before .before .before .before .before .before .before .before .before .before .before .before .before .other-half .ensures) (c .before .before .before .before .before .before .before .before .before .before .before .before .first-of .ensures) (c .before .before .before .before .before .before .before .before .before .before .before .first-of2 .ensures) _ _ _ (c .before .before .before .before .before .before .evacuate .ensures)
+
+cast-t17 : tie.Need-cast-t17
+cast-t17 c = omega (arith, end-high _ tuple-lawful _ (c .before .before .before .before .before .before .before .before .before .before .before .before .before .before .before .before .pre) _ _ _ (c .before .before .before .before .before .before .before .before .before .before .before .before .before .other-half .ensures) (c .before .before .before .before .before .before .before .before .before .before .before .before .first-of .ensures) (c .before .before .before .before .before .before .before .before .before .before .before .first-of2 .ensures) _ _ _ (c .before .before .before .before .before .before .evacuate .ensures))
+
+same-length : tie.Need-same-length
+same-length c = search needs
+
+same-length-2 : tie.Need-same-length-2
+same-length-2 c = search needs
+
+returns : tie.Need-returns
+returns c = collect-is _ tuple-lawful _ (c .before .before .before .before .before .before .before .before .before .before .before .before .before .before .before .before .pre) _ _ _ (c .before .before .before .before .before .before .before .before .before .before .before .before .before .other-half .ensures) (c .before .before .before .before .before .before .before .before .before .before .before .before .first-of .ensures) (c .before .before .before .before .before .before .before .before .before .before .before .first-of2 .ensures) _ _ _ (c .before .before .before .before .before .before .evacuate .ensures)
+
+pub collect-sound-spec : {M : Type 1} → statement M
+collect-sound-spec =
+    tie.close
+    (tie.spec
+    sub-words
+    other-half-requires
+    first-of-requires
+    first-of-requires-2
+    sub-used
+    evacuate-requires
+    sub-t11
+    cast-t17
+    same-length
+    same-length-2
+    returns)

@@ -1,0 +1,4 @@
+pub mod Moving
+pub mod Scanning
+pub mod Evacuation
+pub mod Middle
