@@ -1,0 +1,2 @@
+pub mod CollectCases
+pub mod AllocateCases
