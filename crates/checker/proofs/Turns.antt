@@ -64,12 +64,13 @@ module _ (Y : Layout) (p : Part) where
   mark-enough (suc n) zero H i a b = mark-ended (suc n) H i (omega arith)
   mark-enough (suc n) (suc m) H i a b = rw (mark-enough n m (set H (markAt p i) 1) (i + size Y H i) (omega arith) (omega arith))
 
-  pub mark-turn : (H : List ℕ) (i : ℕ) → i < p .free .0 → Y .isHeader (at H i) ≡ true
-      → markHeaders Y (p .free .0 - (i + size Y H i)) (set H (markAt p i) 1) p (i + size Y H i) ≡ markHeaders Y (p .free .0 - i) H p i
-  mark-turn H i d b =
+  pub mark-turn : (H : List ℕ) (i : ℕ) → i < p .free .0 → Y .isHeader (at H i) ≡ true → (n : ℕ) → n ≡ fieldCount Y H i
+      → markHeaders Y (p .free .0 - (i + (n + 1))) (set H (markAt p i) 1) p (i + (n + 1)) ≡ markHeaders Y (p .free .0 - i) H p i
+  mark-turn H i d b n c =
       let s : p .free .0 - i ≡ suc (p .free .0 - i - 1) = omega arith in
-      mark-enough (p .free .0 - (i + size Y H i)) (p .free .0 - i - 1) (set H (markAt p i) 1) (i + size Y H i) (omega arith) (omega arith)
-      ∙ sym (ap (λ (n : ℕ). markHeaders Y n H p i) s ∙ mark-next (p .free .0 - i - 1) H i d b)
+      rw c
+      (mark-enough (p .free .0 - (i + size Y H i)) (p .free .0 - i - 1) (set H (markAt p i) 1) (i + size Y H i) (omega arith) (omega arith)
+      ∙ sym (ap (λ (n : ℕ). markHeaders Y n H p i) s ∙ mark-next (p .free .0 - i - 1) H i d b))
 
 -- ---- one word against the marks
 module _ (Y : Layout) (H : List ℕ) (p : Part) (w : ℕ) where

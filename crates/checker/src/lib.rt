@@ -26,10 +26,10 @@ use words::tuple::Tuple;
 
 // The used part of the current half, from its first word to the free index. The mark of the word `first + k` is the word
 // `marks + k` of the other half.
-pub struct Part {
-    pub first: Index,
-    pub free: Index,
-    pub marks: Index,
+struct Part {
+    first: Index,
+    free: Index,
+    marks: Index,
 }
 
 // Marks the headers from the first on. Answers where it stopped: at the free index exactly if objects tile the part.
@@ -78,14 +78,14 @@ fn is_value(heap: &[u32], part: Part, word: u32) -> bool
     heap[marks + (i - first)] == 1
 }
 
-// Whether n words of a run are values: roots, or fields of the heap itself.
-fn are_values(words: &[u32], from: usize, n: usize, heap: &[u32], part: Part) -> bool
-    requires { ⌜ (from + n ≤ length (now words)) × Fits (now heap) part ⌝ }
-    ensures { λ r. ⌜ r ≡ all (isValueByMarks tuple (now (heap .entry)) part) (run (now (words .entry)) from n) ⌝ }
+// Whether n words of a slice are values: roots, or fields of the heap itself.
+fn are_values(slice: &[u32], from: usize, n: usize, heap: &[u32], part: Part) -> bool
+    requires { ⌜ (from + n ≤ length (now slice)) × Fits (now heap) part ⌝ }
+    ensures { λ r. ⌜ r ≡ all (isValueByMarks tuple (now (heap .entry)) part) (run (now (slice .entry)) from n) ⌝ }
 {
     let mut i: usize = 0;
     while i < n {
-        let word = words[from + i];
+        let word = slice[from + i];
         if !is_value(heap, part, word) {
             return false;
         }
@@ -152,10 +152,10 @@ fn is_used_part_sound(heap: &mut [u32], roots: &[u32], part: Part) -> bool
     ensures { λ r. ⌜ (r ≡ usedPartSound tuple (now (heap .entry)) (now (roots .entry)) part) × (now (heap .exit) ≡ cleared (marked tuple (now (heap .entry)) part .heap) (part .marks .0) (usedWords part)) ⌝ }
 {
     let marks = part.marks.0;
-    let words = part.free.0 - part.first.0;
-    let is_sound = mark_and_test(heap, roots, part);
-    runs::clear(heap, marks, words);
-    is_sound
+    let used_words = part.free.0 - part.first.0;
+    let sound = mark_and_test(heap, roots, part);
+    runs::clear(heap, marks, used_words);
+    sound
 }
 
 // Whether word 0, the half of the marks and the words from the free index on are 0. A half has `words` words.

@@ -36,9 +36,10 @@ returns : tie.Need-returns Inv-loop μ-loop
 returns c =
     let l = c .before .before .before .loop in
     let a = c .before .before .before .before .before .args in
+    let q = fieldsAreValuesByMarks tuple (a .heap .now) (a .part) in
     sym
     (sym (l .inv .1)
-    ∙ all-failed tuple (a .heap .now) (a .part .free .0) (fieldsAreValuesByMarks tuple (a .heap .now) (a .part)) (l .at) (c .before .before .loop-test .taken) (sym (c .before .fields-are-values .ensures) ∙ not-true _ (c .if1 .taken)))
+    ∙ all-failed tuple (a .heap .now) (a .part .free .0) q (l .at) (c .before .before .loop-test .taken) (sym (c .before .fields-are-values .ensures) ∙ not-true _ (c .if1 .taken)))
 
 mul-count-of : tie.Need-mul-count-of Inv-loop μ-loop
 mul-count-of c = omega arith
@@ -63,9 +64,10 @@ loop-again c =
     let l = c .before .before .before .before .before .loop in
     let a = c .before .before .before .before .before .before .before .args in
     let m = c .before .before .before .before .loop-test .taken in
+    let q = fieldsAreValuesByMarks tuple (a .heap .now) (a .part) in
     rw (c .count-of .ensures .0) (
       tiles-turn tuple _ _ (l .at) m (l .inv .0),
-      all-passed tuple (a .heap .now) (a .part .free .0) (fieldsAreValuesByMarks tuple (a .heap .now) (a .part)) (l .at) m (sym (c .before .before .before .fields-are-values .ensures) ∙ not-false _ (c .before .before .if1 .left))
+      all-passed tuple (a .heap .now) (a .part .free .0) q (l .at) m (sym (c .before .before .before .fields-are-values .ensures) ∙ not-false _ (c .before .before .if1 .left))
           ∙ l .inv .1,
     )
 
@@ -73,7 +75,8 @@ returns-2 : tie.Need-returns-2 Inv-loop μ-loop
 returns-2 c =
     let l = c .before .loop in
     let a = c .before .before .before .args in
-    sym (sym (l .inv .1) ∙ all-ended tuple (a .heap .now) (a .part .free .0) (fieldsAreValuesByMarks tuple (a .heap .now) (a .part)) (l .at) (c .loop-test .left))
+    let q = fieldsAreValuesByMarks tuple (a .heap .now) (a .part) in
+    sym (sym (l .inv .1) ∙ all-ended tuple (a .heap .now) (a .part .free .0) q (l .at) (c .loop-test .left))
 
 pub all-fields-are-values-spec : {M : Type 1} → statement M
 all-fields-are-values-spec =

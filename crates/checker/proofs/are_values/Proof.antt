@@ -16,11 +16,11 @@ use Rattle.checker.proofs.are_values.Lts as lts
 use Rattle.checker.proofs.is_value.Reads as is-value-reads
 
 abbrev Inv-loop : tie.InvT-loop
-Inv-loop words from n heap part i₀ i =
-    (i ≤ n) × (all (isValueByMarks tuple heap part) (run words (from + i) (n - i)) ≡ all (isValueByMarks tuple heap part) (run words from n))
+Inv-loop slice from n heap part i₀ i =
+    (i ≤ n) × (all (isValueByMarks tuple heap part) (run slice (from + i) (n - i)) ≡ all (isValueByMarks tuple heap part) (run slice from n))
 
 abbrev μ-loop : tie.MeasureT-loop
-μ-loop words from n heap part i₀ i = n - i
+μ-loop slice from n heap part i₀ i = n - i
 
 loop-holds : tie.Need-loop-holds Inv-loop μ-loop
 loop-holds c = (omega arith, simp unary-clauses)
@@ -43,7 +43,7 @@ returns c =
     let a = c .before .before .before .before .before .before .before .args in
     sym
     (sym (l .inv .1)
-    ∙ run-failed (isValueByMarks tuple (a .heap .now) (a .part)) (a .words .now) (a .from) (a .n) (l .i) (omega arith) (omega arith) (sym (c .before .is-value .ensures) ∙ not-true _ (c .if1 .taken)))
+    ∙ run-failed (isValueByMarks tuple (a .heap .now) (a .part)) (a .slice .now) (a .from) (a .n) (l .i) (omega arith) (omega arith) (sym (c .before .is-value .ensures) ∙ not-true _ (c .if1 .taken)))
 
 add-i : tie.Need-add-i Inv-loop μ-loop
 add-i c = omega arith
@@ -56,7 +56,7 @@ loop-again c =
     let l = c .before .before .before .before .loop in
     let a = c .before .before .before .before .before .before .before .args in (
       omega arith,
-      run-passed (isValueByMarks tuple (a .heap .now) (a .part)) (a .words .now) (a .from) (a .n) (l .i) (omega arith) (omega arith) (sym (c .before .is-value .ensures) ∙ not-false _ (c .if1 .left))
+      run-passed (isValueByMarks tuple (a .heap .now) (a .part)) (a .slice .now) (a .from) (a .n) (l .i) (omega arith) (omega arith) (sym (c .before .is-value .ensures) ∙ not-false _ (c .if1 .left))
           ∙ l .inv .1,
     )
 
@@ -64,7 +64,7 @@ returns-2 : tie.Need-returns-2 Inv-loop μ-loop
 returns-2 c =
     let l = c .before .loop in
     let a = c .before .before .before .before .args in
-    sym (sym (l .inv .1) ∙ run-ended (isValueByMarks tuple (a .heap .now) (a .part)) (a .words .now) (a .from) (a .n) (l .i) (omega arith))
+    sym (sym (l .inv .1) ∙ run-ended (isValueByMarks tuple (a .heap .now) (a .part)) (a .slice .now) (a .from) (a .n) (l .i) (omega arith))
 
 pub are-values-spec : {M : Type 1} → statement M
 are-values-spec =

@@ -38,7 +38,9 @@ part-of-requires : tie.Need-part-of-requires
 part-of-requires c κs = shaped (given c) (fair c) .small
 
 is-zero-around-requires : tie.Need-is-zero-around-requires
-is-zero-around-requires c κs = part-halves tuple _ (c .before .before .before .before .before .before .args .roots .now) _ (fair (c .before .before)) _ (c .before .part-of .ensures)
+is-zero-around-requires c κs =
+    let a = c .before .before .before .before .before .before .args in
+    part-halves tuple _ (a .roots .now) _ (fair (c .before .before)) _ (c .before .part-of .ensures)
 
 same-length : tie.Need-same-length
 same-length c = search needs
@@ -49,7 +51,9 @@ returns-2 c =
     (u (sym (not-true _ (c .if2 .taken)) ∙ c .before .is-zero-around .ensures), refl)
 
 is-used-part-sound-requires : tie.Need-is-used-part-sound-requires
-is-used-part-sound-requires c κs = part-fits tuple _ (c .before .before .before .before .before .before .before .before .before .args .roots .now) _ (fair (c .before .before .before .before .before)) _ (c .before .before .before .before .part-of .ensures)
+is-used-part-sound-requires c κs =
+    let a = c .before .before .before .before .before .before .before .before .before .args in
+    part-fits tuple _ (a .roots .now) _ (fair (c .before .before .before .before .before)) _ (c .before .before .before .before .part-of .ensures)
 
 same-length-2 : tie.Need-same-length-2
 same-length-2 c = search needs

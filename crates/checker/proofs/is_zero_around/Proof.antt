@@ -19,7 +19,9 @@ all-zero-requires : tie.Need-all-zero-requires
 all-zero-requires c κs = search needs
 
 returns-2 : tie.Need-returns-2
-returns-2 c = around-dirty _ _ _ (c .before .before .if1 .left) (sym (not-true _ (c .if2 .taken)) ∙ c .before .all-zero .ensures)
+returns-2 c =
+    let a = c .before .before .before .before .before .args in
+    around-dirty (a .heap .now) (a .part) (a .words) (c .before .before .if1 .left) (sym (not-true _ (c .if2 .taken)) ∙ c .before .all-zero .ensures)
 
 add-all-zero : tie.Need-add-all-zero
 add-all-zero c = search needs

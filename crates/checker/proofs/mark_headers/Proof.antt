@@ -39,7 +39,8 @@ same-length c = c .before .before .before .before .loop .inv .2
 returns : tie.Need-returns Inv-loop μ-loop
 returns c =
     let l = c .before .before .before .before .loop in
-    sym (mark-stopped tuple (c .before .before .before .before .before .before .args .part) _ (l .heap) (l .at) (c .before .before .before .loop-test .taken) (sym (c .before .is-header .ensures) ∙ not-true _ (c .if1 .taken)))
+    let p = c .before .before .before .before .before .before .args .part in
+    sym (mark-stopped tuple p _ (l .heap) (l .at) (c .before .before .before .loop-test .taken) (sym (c .before .is-header .ensures) ∙ not-true _ (c .if1 .taken)))
     ∙ l .inv .0
 
 sub-heap : tie.Need-sub-heap Inv-loop μ-loop
@@ -68,10 +69,11 @@ loop-less c = omega arith
 
 loop-again : tie.Need-loop-again Inv-loop μ-loop
 loop-again c =
-    let l = c .before .before .before .before .before .loop in (
-      rw (c .count-of .ensures .0)
-          (mark-turn tuple (c .before .before .before .before .before .before .before .args .part) (l .heap) (l .at) (c .before .before .before .before .loop-test .taken) (sym (c .before .before .is-header .ensures) ∙ not-false _ (c .before .if1 .left))
-          ∙ l .inv .0),
+    let l = c .before .before .before .before .before .loop in
+    let p = c .before .before .before .before .before .before .before .args .part in
+    let m = c .before .before .before .before .loop-test .taken in (
+      mark-turn tuple p (l .heap) (l .at) m (sym (c .before .before .is-header .ensures) ∙ not-false _ (c .before .if1 .left)) _ (c .count-of .ensures .0)
+          ∙ l .inv .0,
       omega arith,
       simp length-set (l .inv .2),
     )
