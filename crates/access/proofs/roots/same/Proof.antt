@@ -1,5 +1,6 @@
 -- `access::roots::same` meets its contract, test by test; both root numbers are then below the number of roots.
 use Prim.Native.Nat.{_<_}
+use native.Mathlib.Omega.{arith}
 use lib.ListN.{length}
 use borrow.Author.Tests.{eq-eqb, ne-eqb}
 use mathlib.Core.Path.{sym, _∙_}
@@ -42,13 +43,13 @@ mul-if3 : tie.Need-mul-if3
 mul-if3 c = let b = below c in search needs
 
 shared-slice-read-if3 : tie.Need-shared-slice-read-if3
-shared-slice-read-if3 c = below (c .before) .0
+shared-slice-read-if3 c = let b = below (c .before) in omega arith
 
 mul-if3-2 : tie.Need-mul-if3-2
 mul-if3-2 c = let b = below (c .before) in search needs
 
 shared-slice-read-if3-2 : tie.Need-shared-slice-read-if3-2
-shared-slice-read-if3-2 c = below (c .before .before) .1
+shared-slice-read-if3-2 c = let b = below (c .before .before) in omega arith
 
 say-requires-3 : tie.Need-say-requires-3
 say-requires-3 c κs = search needs
