@@ -1,7 +1,7 @@
 -- `access::fields::raw_read` meets its contract: the call is what `reach` answers, read as a call's outcome.
 use native.Mathlib.Omega.{arith}
 use mathlib.Core.Path.{sym, _∙_}
-use Rattle.model.specs.Words.{lent}
+use Rattle.model.specs.Words.{State, lent}
 use Rattle.access.proofs.Refusing.{said}
 use Rattle.access.proofs.ReachedFields.{by-field, by-refusal, Reaches, reaches, raw-read-reached}
 use borrow.Author.Needs.{needs}
@@ -12,8 +12,12 @@ use Rattle.access.proofs.fields.raw_read.Lts as lts
 use Rattle.access.proofs.answers.say.Reads as say-reads
 use Rattle.access.proofs.fields.reach.Reads as reach-reads
 
-reached-at : (c : tie.After-found) → Reaches (lent (c .before .before .before .before .before .args .heap .now) (c .before .before .before .before .before .args .roots .now) (c .before .before .before .before .before .args .«record»)) (c .before .before .before .before .before .args .object) (c .before .before .before .before .before .args .object) (c .found .given .0 .0)
-reached-at c = reaches _ _ _ _ _ (lent (c .before .before .before .before .before .args .heap .now) (c .before .before .before .before .before .args .roots .now) (c .before .before .before .before .before .args .«record»)) _ (sym (c .before .before .reach .ensures) ∙ c .found .given .1)
+-- what the call was lent
+abbrev start : tie.Start → State
+start c = lent (c .args .heap .now) (c .args .roots .now) (c .args .«record»)
+
+reached-at : (c : tie.After-found) → Reaches (start (c .before .before .before .before .before)) (c .before .before .before .before .before .args .object) (c .before .before .before .before .before .args .object) (c .found .given .0 .0)
+reached-at c = reaches _ _ _ _ _ (start (c .before .before .before .before .before)) _ (sym (c .before .before .reach .ensures) ∙ c .found .given .1)
 
 reach-requires : tie.Need-reach-requires
 reach-requires c κs = search needs
