@@ -105,7 +105,7 @@ say-requires-6 : tie.Need-say-requires-6
 say-requires-6 c κs = search needs
 
 returns-6 : tie.Need-returns-6
-returns-6 c = said _ _ (c .say6 .ensures) (rw (c .before .before .kind-of .ensures, c .before .count-of .ensures .0) (inspect-object _ (start (c .before .before .before .before .before .before .before .before .before .before .before .before .before .before .before)) _ (shape (c .before .before .before .before .before .before .before .before .before .before .before)) (c .before .before .before .before .before .before .before .before .before .before .if2 .left) (c .before .before .before .before .before .before .before .before .if3 .left) (c .before .before .before .before .before .before .before .if4 .left) _ (c .before .before .before .before .index-of .ensures) (sym (c .before .before .before .before .before .before .names .ensures (c .before .before .before .before .before .before .before .before .before .before .before .before .before .before .before .args .roots .now)) ∙ not-false _ (c .before .before .before .before .before .if5 .left))))
+returns-6 c = said _ _ (c .say6 .ensures) (inspect-object _ (start (c .before .before .before .before .before .before .before .before .before .before .before .before .before .before .before)) _ (shape (c .before .before .before .before .before .before .before .before .before .before .before)) (c .before .before .before .before .before .before .before .before .before .before .if2 .left) (c .before .before .before .before .before .before .before .before .if3 .left) (c .before .before .before .before .before .before .before .if4 .left) _ _ _ (c .before .before .before .before .index-of .ensures) (c .before .before .kind-of .ensures) (c .before .count-of .ensures .0) (sym (c .before .before .before .before .before .before .names .ensures (c .before .before .before .before .before .before .before .before .before .before .before .before .before .before .before .args .roots .now)) ∙ not-false _ (c .before .before .before .before .before .if5 .left)))
 
 pub inspect-spec : {M : Type 1} → statement M
 inspect-spec =
