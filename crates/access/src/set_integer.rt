@@ -12,8 +12,8 @@ use model::Record;
 use model::Refusal;
 use words::shape::bad_shape;
 
-// Root `to` gets an integer's word: done, or SHAPE, ROOT or RANGE. Leaves the heap and the record, and
-// looks at no heap word.
+// Root `to` gets an integer's word: done, or SHAPE, ROOT or RANGE. Leaves the heap and the record, and looks at no
+// heap word.
 pub fn set_integer(
     heap: &[u32],
     roots: &mut [u32],
