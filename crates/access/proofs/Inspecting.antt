@@ -5,6 +5,7 @@ use mathlib.Core.Path.{_≡_, sym}
 use mathlib.Core.Bool.{true, false}
 use lib.ListN.{length}
 use borrow.Author.Tests.{eq-eqb, ne-eqb, lt-leb}
+use Rattle.model.specs.declared.Kind.{Kind}
 use Rattle.model.specs.declared.Refusal.the-variants as Why
 use Rattle.model.specs.declared.Answer.the-variants as Says
 use Rattle.model.specs.Words.{State}
@@ -32,8 +33,8 @@ module _ (Y : Layout) (s : State) (r : ℕ) (h : badShape s ≡ false) (l : r < 
     inspect-nothing n =
         simp (h, lt-leb (length (s .roots)) r l, ne-eqb (rootWord s r % 2) 1 o, ne-eqb (rootWord s r) 0 z, n)
 
-    pub inspect-object : (i : ℕ) → i ≡ index Y (rootWord s r) → names Y s (rootWord s r) ≡ true
-        → says (Says.Object (kind Y (s .heap) i) (fieldCount Y (s .heap) i)) s ≡ inspect Y r s
+    pub inspect-object : (i n : ℕ) (k : Kind) → i ≡ index Y (rootWord s r) → k ≡ kind Y (s .heap) i → n ≡ fieldCount Y (s .heap) i
+        → names Y s (rootWord s r) ≡ true → says (Says.Object k n) s ≡ inspect Y r s
     unfolding inspect refuse
-    inspect-object i e n =
-        simp (sym e, h, lt-leb (length (s .roots)) r l, ne-eqb (rootWord s r % 2) 1 o, ne-eqb (rootWord s r) 0 z, n)
+    inspect-object i n k e f g d =
+        simp (sym e, sym f, sym g, h, lt-leb (length (s .roots)) r l, ne-eqb (rootWord s r % 2) 1 o, ne-eqb (rootWord s r) 0 z, d)

@@ -26,13 +26,22 @@ use Rattle.access.proofs.NamedObjects.{free-in-heap, named-ends}
 use Rattle.access.proofs.RootNumbers.{both-below}
 
 -- what a call comes to that does `next` with the index of its field
-abbrev pub answered : Field → State → (ℕ → Outcome) → Outcome
+unfoldable pub answered : Field → State → (ℕ → Outcome) → Outcome
 answered (At i) s next = next (i .0)
 answered (Refused k) s next = says (Says.Refused k) s
 
+-- such a call, where the field is known, or the refusal
+pub by-field : {o : Outcome} {x : Field} {i : Index} (s : State) (next : ℕ → Outcome) → o ≡ answered x s next → x ≡ At i → next (i .0) ≡ o
+unfolding answered
+by-field s next e f = sym (e ∙ ap (λ (x : Field). answered x s next) f)
+
+pub by-refusal : {o : Outcome} {x : Field} {k : Refusal} (s : State) (next : ℕ → Outcome) → o ≡ answered x s next → x ≡ Refused k → says (Says.Refused k) s ≡ o
+unfolding answered
+by-refusal s next e f = sym (e ∙ ap (λ (x : Field). answered x s next) f)
+
 answered-refuse : (b : Bool) (k : Refusal) (x : Field) (s : State) (next : ℕ → Outcome)
     → answered (cond b (Refused k) x) s next ≡ refuse b k s (answered x s next)
-unfolding refuse
+unfolding answered refuse
 answered-refuse true k x s next = refl
 answered-refuse false k x s next = refl
 
@@ -59,7 +68,7 @@ module _ (Y : Layout) where
       (refuse (noRoot s r || noRoot s q) Why.Root s
       (onField Y k (rootWord s r) f s (next (fieldIndex (index Y (rootWord s r)) f))))
       ≡ answered (reached Y k r f q s) s next
-  unfolding fieldOf reached
+  unfolding answered fieldOf reached
   on-reached k r f q s next = sym (simp answered-refuse)
 
   -- a call that names one root only

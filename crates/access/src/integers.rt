@@ -10,12 +10,13 @@ const MAX_INTEGER: u64 = 1073741823;
 // The largest word: that of -1.
 const LAST_WORD: u64 = 4294967295;
 
-// The word of an integer, or that it has none.
+// The word of an integer, or that there is none.
 pub enum Tagged {
     Word(u32),
     OutOfRange,
 }
 
+// The word of an integer. Of a negative one, -(below + 1), it is that many pairs below the largest word.
 pub fn tag(value: i64) -> Tagged
     ensures { λ r. ⌜ r ≡ tagged value ⌝ }
 {

@@ -4,6 +4,7 @@ pub mod fields;
 pub mod fresh;
 pub mod inspect;
 pub mod roots;
+pub mod set_integer;
 pub mod window;
 
 // What the calls share.

@@ -50,6 +50,7 @@ pub enum Field {
     Refused(Refusal),
 }
 
+// Whether a header is that of an object of the kind that a call is for.
 fn is_of_kind(kind: Kind, header: u32) -> bool
     ensures { λ r. ⌜ r ≡ isOfKind kind (Layouts.tuple .kindOf header) ⌝ }
 {

@@ -2,7 +2,7 @@
 use Prim.Native.Nat.{_<_}
 use mathlib.Core.Path.{sym, _∙_}
 use lib.ListN.{length}
-use Rattle.model.specs.Words.{lent}
+use Rattle.model.specs.Words.{State, lent}
 use Rattle.access.specs.Leaves.{reached}
 use Rattle.access.proofs.RootNumbers.{both-below}
 use Rattle.access.proofs.NamedObjects.{free-in-heap}
@@ -14,6 +14,10 @@ use Rattle.access.proofs.fields.reach.Lts as lts
 use Rattle.access.proofs.objects.field_of.Reads as field-of-reads
 use Rattle.access.proofs.root_numbers.no_root.Reads as no-root-reads
 use Rattle.words.proofs.shape.bad_shape.Reads as bad-shape-reads
+
+-- what the call was lent
+abbrev start : tie.Start → State
+start c = lent (c .args .heap .now) (c .args .roots .now) (c .args .«record»)
 
 below : (c : tie.Else2) → c .before .before .before .before .before .before .args .object < length (c .before .before .before .before .before .before .args .roots .now)
 below c = both-below _ _ _ (sym (c .before .no-root .ensures) ∙ c .if2 .left) .0
@@ -39,7 +43,7 @@ shared-slice-read-field-of : tie.Need-shared-slice-read-field-of
 shared-slice-read-field-of c = below (c .before)
 
 field-of-requires : tie.Need-field-of-requires
-field-of-requires c κs = free-in-heap (lent (c .before .before .before .before .before .before .before .args .heap .now) (c .before .before .before .before .before .before .before .args .roots .now) (c .before .before .before .before .before .before .before .args .«record»)) (sym (c .before .before .before .before .bad-shape .ensures) ∙ c .before .before .before .if1 .left)
+field-of-requires c κs = free-in-heap (start (c .before .before .before .before .before .before .before)) (sym (c .before .before .before .before .bad-shape .ensures) ∙ c .before .before .before .if1 .left)
 
 returns-3 : tie.Need-returns-3
 unfolding reached

@@ -1,8 +1,9 @@
 -- `access::fresh::fresh` meets its contract: what `clear` leaves of all the words is zeros.
 use mathlib.Core.Path.{sym, _∙_}
+use Rattle.model.specs.Words.{lent}
 use Rattle.model.specs.Calls as Calls
-use Rattle.access.proofs.Refusing.{said, applies, passes}
-use Rattle.access.proofs.FreshHeap.{cleared-all}
+use Rattle.access.proofs.Refusing.{said, applies}
+use Rattle.access.proofs.FreshHeap.{fresh-done}
 use borrow.Author.Needs.{needs}
 use Rattle.access.proofs.fresh.fresh.Statement.{statement}
 use Rattle.access.proofs.fresh.fresh.Tie as tie
@@ -32,8 +33,7 @@ same-length : tie.Need-same-length
 same-length c = search needs
 
 returns-2 : tie.Need-returns-2
-unfolding Calls.fresh
-returns-2 c = said _ _ (c .say2 .ensures) (passes _ _ (sym (c .before .before .before .before .before .before .bad-length .ensures) ∙ c .before .before .before .before .before .if1 .left) (rw (c .before .before .before .clear .ensures, cleared-all)))
+returns-2 c = said _ _ (c .say2 .ensures) (fresh-done (lent (c .before .before .before .before .before .before .before .before .before .args .heap .now) (c .before .before .before .before .before .before .before .before .before .args .roots .now) (c .before .before .before .before .before .before .before .before .before .args .«record»)) _ (sym (c .before .before .before .before .before .before .bad-length .ensures) ∙ c .before .before .before .before .before .if1 .left) (c .before .before .before .clear .ensures))
 
 pub fresh-spec : {M : Type 1} → statement M
 fresh-spec =

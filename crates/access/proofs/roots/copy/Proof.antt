@@ -1,5 +1,6 @@
 -- `access::roots::copy` meets its contract, test by test; both root numbers are then below the number of roots.
 use Prim.Native.Nat.{_<_}
+use native.Mathlib.Omega.{arith}
 use lib.ListN.{length}
 use mathlib.Core.Path.{refl, sym, _∙_}
 use Rattle.model.specs.Calls.{copy}
@@ -41,13 +42,13 @@ mul-roots : tie.Need-mul-roots
 mul-roots c = let b = below c in search needs
 
 slice-read-roots : tie.Need-slice-read-roots
-slice-read-roots c = below (c .before) .0
+slice-read-roots c = let b = below (c .before) in omega arith
 
 mul-roots-2 : tie.Need-mul-roots-2
 mul-roots-2 c = let b = below (c .before) in search needs
 
 slice-write-roots : tie.Need-slice-write-roots
-slice-write-roots c = below (c .before) .1
+slice-write-roots c = let b = below (c .before) in omega arith
 
 say-requires-3 : tie.Need-say-requires-3
 say-requires-3 c κs = search needs

@@ -1,8 +1,13 @@
 -- `access::roots::same` meets its contract, test by test; both root numbers are then below the number of roots.
 use Prim.Native.Nat.{_<_}
+use native.Mathlib.Omega.{arith}
 use lib.ListN.{length}
 use borrow.Author.Tests.{eq-eqb, ne-eqb}
-use mathlib.Core.Path.{sym, _∙_}
+use mathlib.Core.Path.{sym, ap, _∙_}
+use mathlib.Core.Bool.{Bool, cond}
+use Rattle.model.specs.declared.Answer.the-variants as Says
+use Rattle.model.specs.Words.{State, lent}
+use Rattle.model.specs.Answers.{says}
 use Rattle.model.specs.Calls.{same}
 use Rattle.access.proofs.Refusing.{said, applies, passes}
 use Rattle.access.proofs.RootNumbers.{both-below}
@@ -14,6 +19,10 @@ use Rattle.access.proofs.roots.same.Lts as lts
 use Rattle.access.proofs.answers.say.Reads as say-reads
 use Rattle.access.proofs.root_numbers.no_root.Reads as no-root-reads
 use Rattle.words.proofs.shape.bad_shape.Reads as bad-shape-reads
+
+-- what the call was lent
+abbrev start : tie.Start → State
+start c = lent (c .args .heap .now) (c .args .roots .now) (c .args .«record»)
 
 below : (c : tie.Else2) → (c .before .before .before .before .before .before .args .one < length (c .before .before .before .before .before .before .args .roots .now)) × (c .before .before .before .before .before .before .args .other < length (c .before .before .before .before .before .before .args .roots .now))
 below c = both-below _ _ _ (sym (c .before .no-root .ensures) ∙ c .if2 .left)
@@ -42,27 +51,27 @@ mul-if3 : tie.Need-mul-if3
 mul-if3 c = let b = below c in search needs
 
 shared-slice-read-if3 : tie.Need-shared-slice-read-if3
-shared-slice-read-if3 c = below (c .before) .0
+shared-slice-read-if3 c = let b = below (c .before) in omega arith
 
 mul-if3-2 : tie.Need-mul-if3-2
 mul-if3-2 c = let b = below (c .before) in search needs
 
 shared-slice-read-if3-2 : tie.Need-shared-slice-read-if3-2
-shared-slice-read-if3-2 c = below (c .before .before) .1
+shared-slice-read-if3-2 c = let b = below (c .before .before) in omega arith
 
 say-requires-3 : tie.Need-say-requires-3
 say-requires-3 c κs = search needs
 
 returns-3 : tie.Need-returns-3
 unfolding same
-returns-3 c = said _ _ (c .say3 .ensures) (passes _ _ (sym (c .before .before .before .before .before .before .before .bad-shape .ensures) ∙ c .before .before .before .before .before .before .if1 .left) (passes _ _ (sym (c .before .before .before .before .before .no-root .ensures) ∙ c .before .before .before .before .if2 .left) (rw (eq-eqb _ _ (c .before .if3 .taken)))))
+returns-3 c = said _ _ (c .say3 .ensures) (passes _ _ (sym (c .before .before .before .before .before .before .before .bad-shape .ensures) ∙ c .before .before .before .before .before .before .if1 .left) (passes _ _ (sym (c .before .before .before .before .before .no-root .ensures) ∙ c .before .before .before .before .if2 .left) (ap (λ (b : Bool). says (cond b Says.Yes Says.No) (start (c .before .before .before .before .before .before .before .before .before .before))) (sym (eq-eqb _ _ (c .before .if3 .taken))))))
 
 say-requires-4 : tie.Need-say-requires-4
 say-requires-4 c κs = search needs
 
 returns-4 : tie.Need-returns-4
 unfolding same
-returns-4 c = said _ _ (c .say4 .ensures) (passes _ _ (sym (c .before .before .before .before .before .before .before .bad-shape .ensures) ∙ c .before .before .before .before .before .before .if1 .left) (passes _ _ (sym (c .before .before .before .before .before .no-root .ensures) ∙ c .before .before .before .before .if2 .left) (rw (ne-eqb _ _ (c .before .if3 .left)))))
+returns-4 c = said _ _ (c .say4 .ensures) (passes _ _ (sym (c .before .before .before .before .before .before .before .bad-shape .ensures) ∙ c .before .before .before .before .before .before .if1 .left) (passes _ _ (sym (c .before .before .before .before .before .no-root .ensures) ∙ c .before .before .before .before .if2 .left) (ap (λ (b : Bool). says (cond b Says.Yes Says.No) (start (c .before .before .before .before .before .before .before .before .before .before))) (sym (ne-eqb _ _ (c .before .if3 .left))))))
 
 pub same-spec : {M : Type 1} → statement M
 same-spec =

@@ -1,10 +1,11 @@
 -- `access::window::find` meets its contract, test by test; an object that is named lies in the heap.
 use Prim.Native.Nat.{_<_}
 use borrow.Author.Tests.{le-leb, lt-leb, not-false}
-use mathlib.Core.Path.{sym, ap, _∙_}
-use mathlib.Core.Bool.{not}
+use mathlib.Core.Path.{_≡_, sym, ap, _∙_}
+use mathlib.Core.Bool.{false, not}
 use lib.ListN.{length}
-use Rattle.model.specs.Words.{lent}
+use Rattle.model.specs.Words.{State, lent}
+use Rattle.model.specs.Shape.{badShape}
 use Rattle.model.specs.Window.{window}
 use Rattle.access.proofs.NamedObjects.{free-in-heap, header-below}
 use borrow.Author.Needs.{needs}
@@ -17,8 +18,15 @@ use Rattle.words.proofs.shape.bad_shape.Reads as bad-shape-reads
 use Rattle.words.proofs.tuple.Tuple.count_of.Reads as count-of-reads
 use Rattle.words.proofs.tuple.Tuple.index_of.Reads as index-of-reads
 
+-- what the call was lent
+abbrev start : tie.Start → State
+start c = lent (c .args .heap .now) (c .args .roots .now) (c .args .«record»)
+
+shape : (c : tie.Else1) → badShape (start (c .before .before .before .before)) ≡ false
+shape c = sym (c .before .bad-shape .ensures) ∙ c .if1 .left
+
 below : (c : tie.After-index-of) → c .index-of .result .0 < length (c .before .before .before .before .before .before .before .before .before .args .heap .now)
-below c = header-below _ (lent (c .before .before .before .before .before .before .before .before .before .args .heap .now) (c .before .before .before .before .before .before .before .before .before .args .roots .now) (c .before .before .before .before .before .before .before .before .before .args .«record»)) _ _ (c .index-of .ensures) (sym (c .before .before .before .before .before .before .bad-shape .ensures) ∙ c .before .before .before .before .before .if1 .left) (sym (c .before .before .names .ensures (c .before .before .before .before .before .before .before .before .before .args .roots .now)) ∙ not-false _ (c .before .if3 .left))
+below c = header-below _ (start (c .before .before .before .before .before .before .before .before .before)) _ _ (c .index-of .ensures) (shape (c .before .before .before .before .before)) (sym (c .before .before .names .ensures (c .before .before .before .before .before .before .before .before .before .args .roots .now)) ∙ not-false _ (c .before .if3 .left))
 
 bad-shape-requires : tie.Need-bad-shape-requires
 bad-shape-requires c κs = search needs
@@ -29,7 +37,7 @@ returns c = simp (sym (c .before .bad-shape .ensures) ∙ c .if1 .taken)
 
 returns-2 : tie.Need-returns-2
 unfolding window
-returns-2 c = simp (sym (c .before .before .bad-shape .ensures) ∙ c .before .if1 .left, le-leb _ _ (c .if2 .taken))
+returns-2 c = simp (shape (c .before), le-leb _ _ (c .if2 .taken))
 
 mul-word : tie.Need-mul-word
 mul-word c = search needs
@@ -38,11 +46,11 @@ shared-slice-read-word : tie.Need-shared-slice-read-word
 shared-slice-read-word c = search needs
 
 names-requires : tie.Need-names-requires
-names-requires c κs = free-in-heap (lent (c .before .before .before .before .before .before .args .heap .now) (c .before .before .before .before .before .before .args .roots .now) (c .before .before .before .before .before .before .args .«record»)) (sym (c .before .before .before .bad-shape .ensures) ∙ c .before .before .if1 .left)
+names-requires c κs = free-in-heap (start (c .before .before .before .before .before .before)) (shape (c .before .before))
 
 returns-3 : tie.Need-returns-3
 unfolding window
-returns-3 c = simp (sym (c .before .before .before .before .before .bad-shape .ensures) ∙ c .before .before .before .before .if1 .left, lt-leb _ _ (c .before .before .before .if2 .left), ap not (sym (c .before .names .ensures (c .before .before .before .before .before .before .before .before .args .roots .now))) ∙ c .if3 .taken)
+returns-3 c = simp (shape (c .before .before .before .before), lt-leb _ _ (c .before .before .before .if2 .left), ap not (sym (c .before .names .ensures (c .before .before .before .before .before .before .before .before .args .roots .now))) ∙ c .if3 .taken)
 
 index-of-requires : tie.Need-index-of-requires
 index-of-requires c κs = search needs
@@ -61,7 +69,7 @@ cast-count c = search needs
 
 returns-4 : tie.Need-returns-4
 unfolding window
-returns-4 c = simp (sym (c .before .before .before .before .before .before .before .before .bad-shape .ensures) ∙ c .before .before .before .before .before .before .before .if1 .left, lt-leb _ _ (c .before .before .before .before .before .before .if2 .left), ap not (sym (c .before .before .before .before .names .ensures (c .before .before .before .before .before .before .before .before .before .before .before .args .roots .now))) ∙ c .before .before .before .if3 .left, sym (c .before .before .index-of .ensures), sym (c .count-of .ensures .0))
+returns-4 c = simp (shape (c .before .before .before .before .before .before .before), lt-leb _ _ (c .before .before .before .before .before .before .if2 .left), ap not (sym (c .before .before .before .before .names .ensures (c .before .before .before .before .before .before .before .before .before .before .before .args .roots .now))) ∙ c .before .before .before .if3 .left, sym (c .before .before .index-of .ensures), sym (c .count-of .ensures .0))
 
 pub find-spec : {M : Type 1} → statement M
 find-spec =

@@ -1,4 +1,4 @@
--- `access::roots::set_integer` meets its contract, test by test; the range by what `tag` answers.
+-- `access::set_integer::set_integer` meets its contract, test by test; the range by what `tag` answers.
 use borrow.Author.Tests.{le-leb, lt-leb}
 use mathlib.Core.Path.{sym, ap, _∙_}
 use mir.ValLaws.{toZ-ofZ}
@@ -8,10 +8,10 @@ use Rattle.access.proofs.Refusing.{said, applies, passes}
 use Rattle.access.specs.Leaves.{tagged}
 use Rattle.access.proofs.TaggedIntegers.{tagged-word, tagged-none}
 use borrow.Author.Needs.{needs}
-use Rattle.access.proofs.roots.set_integer.Statement.{statement}
-use Rattle.access.proofs.roots.set_integer.Tie as tie
-use Rattle.access.proofs.roots.set_integer.Reads as reads
-use Rattle.access.proofs.roots.set_integer.Lts as lts
+use Rattle.access.proofs.set_integer.set_integer.Statement.{statement}
+use Rattle.access.proofs.set_integer.set_integer.Tie as tie
+use Rattle.access.proofs.set_integer.set_integer.Reads as reads
+use Rattle.access.proofs.set_integer.set_integer.Lts as lts
 use Rattle.access.proofs.answers.say.Reads as say-reads
 use Rattle.access.proofs.integers.tag.Reads as tag-reads
 use Rattle.words.proofs.shape.bad_shape.Reads as bad-shape-reads
