@@ -2,12 +2,11 @@
 use Prim.Native.Nat.{ℕ, _+_, _≤_}
 use native.Mathlib.Omega.{arith}
 use native.Mathlib.Numerals.{add-one}
-use mathlib.Core.Path.{_≡_, refl, sym, ap, _∙_}
+use mathlib.Core.Path.{_≡_, sym, ap, _∙_}
 use mathlib.Core.Logic.{⊎-elim}
 use mathlib.Core.Bool.{true, false}
 use mathlib.Core.List.{List}
 use lib.ListN.{length, set, length-set}
-use lib.Seq.{set-getD}
 use Rattle.model.specs.Words.{at}
 use Rattle.model.specs.Values.{isAddress}
 use Rattle.model.specs.Headers.{Layout}
@@ -15,9 +14,8 @@ use Rattle.model.specs.Objects.{address, index, size}
 use Rattle.model.proofs.Tests.{by-test}
 use Rattle.words.specs.Runs.{copiedRun}
 use Rattle.words.proofs.RunLaws.{copied-length, copied-front}
-use Rattle.collector.specs.declared.moving.Met.{Met}
 use Rattle.collector.specs.declared.moving.Met.the-variants.{Plain, Copied, Found}
-use Rattle.collector.specs.Moving.{Left, left, moved, relocated, renamed}
+use Rattle.collector.specs.Moving.{left, moved, relocated, renamed}
 
 module _ (Y : Layout) where
   module _ (h : List ℕ) (i f : ℕ) where

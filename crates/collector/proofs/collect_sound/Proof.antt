@@ -1,7 +1,6 @@
 -- `collector::collect_sound` meets its contract: the evacuation of a sound heap leaves what `collected` says.
 use native.Mathlib.Omega.{arith}
 use Rattle.model.proofs.Headers.{tuple-lawful}
-use Rattle.model.proofs.Shape.{Shaped}
 use Rattle.collector.proofs.Contract.{shape, may-evacuate, end-low, end-high, collect-is}
 use borrow.Author.Needs.{needs}
 use Rattle.collector.proofs.collect_sound.Statement.{statement}

@@ -1,6 +1,6 @@
 -- `collector::moving::relocate` meets its contract: each return is a case of `relocated`, from what the calls answer.
 use native.Mathlib.Omega.{arith}
-use mathlib.Core.Path.{_≡_, sym, _∙_}
+use mathlib.Core.Path.{sym, _∙_}
 use lib.ListN.{length-set}
 use Rattle.model.specs.Headers.{tuple}
 use Rattle.collector.proofs.MovingLaws.{copied-is, copied-same, found-is}
@@ -57,11 +57,11 @@ mul-heap-2 c = search needs
 slice-write-heap-2 : tie.Need-slice-write-heap-2
 slice-write-heap-2 c = search needs
 
-add-t18 : tie.Need-add-t18
-add-t18 c = search needs
+add-t19 : tie.Need-add-t19
+add-t19 c = search needs
 
-add-t13 : tie.Need-add-t13
-add-t13 c = search needs
+add-t14 : tie.Need-add-t14
+add-t14 c = search needs
 
 same-length : tie.Need-same-length
 same-length c =
@@ -95,8 +95,8 @@ relocate-spec =
     mark-requires
     mul-heap-2
     slice-write-heap-2
-    add-t18
-    add-t13
+    add-t19
+    add-t14
     same-length
     returns
     unmark-requires

@@ -6,7 +6,6 @@ use mathlib.Core.Path.{_≡_, refl, sym, _∙_}
 use lib.ListN.{length}
 use Rattle.model.specs.Headers.{tuple}
 use Rattle.collector.specs.Scanning.{scan, run, SafeRun}
-use Rattle.collector.proofs.PassingLaws.{Keeps}
 use Rattle.collector.proofs.ObjectLaws.{field-may, field-keeps, field-run, field-safe, fields-done}
 use Rattle.collector.proofs.scanning.pass_fields.Statement.{statement}
 use Rattle.collector.proofs.scanning.pass_fields.Tie as tie

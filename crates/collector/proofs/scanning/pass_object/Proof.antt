@@ -1,8 +1,7 @@
 -- `collector::scanning::pass_object` meets its contract: the header is one word of the run, and its fields or raw words are the others.
 use native.Mathlib.Omega.{arith}
-use mathlib.Core.Path.{_≡_, sym, _∙_}
-use Rattle.model.specs.Headers.{tuple}
-use Rattle.collector.proofs.ObjectLaws.{object-within, object-whole, fields-may, traced-is, untraced-is}
+use mathlib.Core.Path.{sym, _∙_}
+use Rattle.collector.proofs.ObjectLaws.{object-within, fields-may, traced-is, untraced-is}
 use borrow.Author.Needs.{needs}
 use Rattle.collector.proofs.scanning.pass_object.Statement.{statement}
 use Rattle.collector.proofs.scanning.pass_object.Tie as tie
