@@ -44,9 +44,10 @@ pub fn relocate(heap: &mut [u32], object: Index, free: Index) -> Moved
         let copy = Tuple::address_of(free);
         let mark = Tuple::mark(copy);
         heap[from] = mark;
+        let end = to + 1 + n;
         return Moved {
             to: copy,
-            free: Index(to + 1 + n),
+            free: Index(end),
             met: Met::Copied,
         };
     }

@@ -57,11 +57,11 @@ mul-heap-2 c = search needs
 slice-write-heap-2 : tie.Need-slice-write-heap-2
 slice-write-heap-2 c = search needs
 
-add-t19 : tie.Need-add-t19
-add-t19 c = search needs
+add-end : tie.Need-add-end
+add-end c = search needs
 
-add-t14 : tie.Need-add-t14
-add-t14 c = search needs
+add-end-2 : tie.Need-add-end-2
+add-end-2 c = search needs
 
 same-length : tie.Need-same-length
 same-length c =
@@ -95,8 +95,8 @@ relocate-spec =
     mark-requires
     mul-heap-2
     slice-write-heap-2
-    add-t19
-    add-t14
+    add-end
+    add-end-2
     same-length
     returns
     unmark-requires
