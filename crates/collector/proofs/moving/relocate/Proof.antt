@@ -66,11 +66,12 @@ add-end-2 c = search needs
 same-length : tie.Need-same-length
 same-length c =
     let s = c .before .before .before .before .before .before .before .before .before .before .before in
-    copied-same tuple (s .args .heap .now) (s .args .object .0) (s .args .free .0) _ _ _ (c .before .before .before .before .copy .ensures)
+    copied-same tuple (s .args .heap .now) (s .args .object .0) (s .args .free .0) _ _ _ _ (c .before .before .before .before .copy .ensures)
 
 returns : tie.Need-returns
 returns c =
-    copied-is _ _ _ _ _ _ _ _ (sym (c .before .before .before .before .before .before .before .before .is-header .ensures) ∙ c .before .before .before .before .before .before .before .if1 .taken) (c .before .before .before .before .before .before .count-of .ensures .0) (c .before .before .before .before .copy .ensures) (c .before .address-of .ensures) (c .mark .ensures)
+    let s = c .before .before .before .before .before .before .before .before .before .before .before in
+    copied-is tuple (s .args .heap .now) (s .args .object .0) (s .args .free .0) _ _ _ _ (sym (c .before .before .before .before .before .before .before .before .is-header .ensures) ∙ c .before .before .before .before .before .before .before .if1 .taken) (c .before .before .before .before .before .before .count-of .ensures .0) (c .before .before .before .before .copy .ensures) (c .before .address-of .ensures) (c .mark .ensures)
 
 unmark-requires : tie.Need-unmark-requires
 unmark-requires c κs = sym (c .before .is-header .ensures) ∙ c .if1 .left
