@@ -9,7 +9,6 @@ use lib.ListN.{length}
 use lib.Seq.{ext-getD}
 use Rattle.model.specs.Words.{State, lent, at, halfWords, other, firstWord, otherFirst, free}
 use Rattle.model.specs.Headers.{Layout, Lawful}
-use Rattle.model.specs.Objects.{size}
 use Rattle.model.specs.Discovery.{mem, packed}
 use Rattle.model.specs.Collection.{cells, orderAt, live, collected}
 use Rattle.model.specs.During.{during}
@@ -26,7 +25,7 @@ use Rattle.model.proofs.Middle.{halves-ordered, stage-null}
 use Rattle.words.specs.Runs.{cleared}
 use Rattle.words.proofs.RunLaws.{cleared-length, cleared-inside, cleared-outside}
 use Rattle.collector.specs.Scanning.{between}
-use Rattle.collector.specs.Evacuation.{Emptied, emptied, rooted, scanned, evacuated, SafeEvacuation}
+use Rattle.collector.specs.Evacuation.{Emptied, rooted, evacuated, SafeEvacuation}
 use Rattle.collector.specs.Middle.{stateAfter}
 use Rattle.collector.proofs.Slices.{safe-roots, after-roots, scan-starts, safe-slice}
 use Rattle.collector.proofs.Middle.{state-is}

@@ -4,7 +4,7 @@ use Prim.Native.Nat.{ℕ, _+_, _-_, _≤_, _<_, min}
 use native.Mathlib.Nat.{zero-add}
 use native.Mathlib.Omega.{arith}
 use mathlib.Core.Path.{_≡_, sym, ap, _∙_, subst}
-use mathlib.Core.Logic.{_⊎_, inl, inr, ⊎-elim}
+use mathlib.Core.Logic.{inl, inr, ⊎-elim}
 use mathlib.Core.Bool.{true}
 use mathlib.Core.List.{List}
 use mathlib.Core.Option.{none}
@@ -17,7 +17,7 @@ use Rattle.model.specs.Soundness.{sound}
 use Rattle.model.specs.Collection.{Cell, still, cells, wordLeads, orderAt, order, live, rename}
 use Rattle.model.specs.During.{oldWord, stage, during}
 use Rattle.model.proofs.Tests.{by-test, decide}
-use Rattle.model.proofs.Members.{In, Out}
+use Rattle.model.proofs.Members.{In, Out, map-in, position}
 use Rattle.model.proofs.Lists.{getD-map}
 use Rattle.model.proofs.Packed.{packed-grows}
 use Rattle.model.proofs.Shape.{other-in, halves-cover}
@@ -25,13 +25,13 @@ use Rattle.model.proofs.Soundness.{Sound, sound-parts}
 use Rattle.model.proofs.Collected.{live-is}
 use Rattle.model.proofs.Stage.{stage-passed, stage-coming, stage-rest, stage-header, stage-kept, stage-length}
 use Rattle.model.proofs.During.{rename-stable, order-heads, order-room, root-found, ended}
-use Rattle.model.proofs.Middle.{halves-ordered, map-at, stage-null, order-later, during-still}
-use Rattle.collector.specs.Scanning.{Scan, After, between, run}
+use Rattle.model.proofs.Middle.{halves-ordered, stage-null, order-later, during-still}
+use Rattle.collector.specs.Scanning.{Scan, between, run}
 use Rattle.collector.specs.Evacuation.{Emptied, rooted, scanned}
 use Rattle.collector.specs.Middle.{stateAfter, placeAfter, Middle}
 use Rattle.collector.proofs.Midway.{Midway}
 use Rattle.collector.proofs.Passing.{Scans}
-use Rattle.collector.proofs.Slices.{Rooted, Reached, after-roots, scan-starts, slice}
+use Rattle.collector.proofs.Slices.{Reached, after-roots, scan-starts, slice}
 
 -- ---- the heap, word by word
 
@@ -90,7 +90,7 @@ module _ (Y : Layout) (s : State) (v : Sound Y s) (p : ℕ) (h : List ℕ) (M : 
       (halves-cover s (v .shape) x z l))
       (decide x 1)
 
-  pub midway-heap : h ≡ during Y s p .heap
+  midway-heap : h ≡ during Y s p .heap
   midway-heap =
       let n = stage-length Y s v O (order-heads Y s v p) (order-room Y s v p) p in
       ext-getD 0 h D (M .same ∙ sym n) (λ x l. at-each x (omega (arith, M .same)))
@@ -106,9 +106,10 @@ module _ (Y : Layout) (K : Lawful Y) (s : State) (v : Sound Y s) where
   unfolding stage
   during-roots p =
       after-roots Y K s v .roots
-      ∙ map-at (rename Y (s .heap) (orderAt Y s 0) (otherFirst s)) (rename Y (s .heap) (orderAt Y s p) (otherFirst s)) (s .roots)
-      (λ r l. sym (rename-stable Y (s .heap) (orderAt Y s 0) (orderAt Y s p) (otherFirst s) (at (s .roots) r) (order-later Y s 0 p (omega arith))
-      (λ i q. root-found Y s v 0 r i (getD-map (wordLeads Y) (s .roots) r 0 none l ∙ q))))
+      ∙ map-in (rename Y (s .heap) (orderAt Y s 0) (otherFirst s)) (rename Y (s .heap) (orderAt Y s p) (otherFirst s)) (s .roots)
+      (λ w m. let r = position w (s .roots) m in
+      sym (rename-stable Y (s .heap) (orderAt Y s 0) (orderAt Y s p) (otherFirst s) w (order-later Y s 0 p (omega arith))
+      (λ i q. root-found Y s v 0 (r .0) i (getD-map (wordLeads Y) (s .roots) (r .0) 0 none (r .1) ∙ ap (wordLeads Y) (r .2) ∙ q))))
 
   -- a scan that stands after p words
   stands-is : (p : ℕ) (h : List ℕ) (c : Scan) → Scans Y s (orderAt Y s p) p h c
@@ -159,7 +160,7 @@ module _ (Y : Layout) (K : Lawful Y) (s : State) (v : Sound Y s) where
   unfolding placeAfter scanned
   place-is p = reached p .scans .stands ∙ ap (λ (x : ℕ). otherFirst s + x) (words-passed p)
 
-  pub midway : (p : ℕ) → Middle Y s p
+  midway : (p : ℕ) → Middle Y s p
   midway p = record { state = state-is p; place = place-is p }
 
 -- THE MIDDLE STATE of any sound heap

@@ -2,12 +2,11 @@
 use Prim.Native.Nat.{ℕ, _+_, _≤_}
 use native.Mathlib.Omega.{arith}
 use native.Mathlib.Numerals.{add-one}
-use mathlib.Core.Path.{_≡_, refl, sym, ap, _∙_}
+use mathlib.Core.Path.{_≡_, sym, ap, _∙_}
 use mathlib.Core.Logic.{⊎-elim}
 use mathlib.Core.Bool.{true, false}
 use mathlib.Core.List.{List}
 use lib.ListN.{length, set, length-set}
-use lib.Seq.{set-getD}
 use Rattle.model.specs.Words.{at}
 use Rattle.model.specs.Values.{isAddress}
 use Rattle.model.specs.Headers.{Layout}
@@ -15,9 +14,8 @@ use Rattle.model.specs.Objects.{address, index, size}
 use Rattle.model.proofs.Tests.{by-test}
 use Rattle.words.specs.Runs.{copiedRun}
 use Rattle.words.proofs.RunLaws.{copied-length, copied-front}
-use Rattle.collector.specs.declared.moving.Met.{Met}
 use Rattle.collector.specs.declared.moving.Met.the-variants.{Plain, Copied, Found}
-use Rattle.collector.specs.Moving.{Left, left, moved, relocated, renamed}
+use Rattle.collector.specs.Moving.{left, moved, relocated, renamed}
 
 module _ (Y : Layout) where
   module _ (h : List ℕ) (i f : ℕ) where
@@ -41,8 +39,8 @@ module _ (Y : Layout) where
         let z : f + 1 + n ≡ f + (n + 1) = omega arith in
         rw (relocated-copied e, em, ea, eh, run-whole n, z, en)
 
-    pub copied-same : (n m : ℕ) (h₁ : List ℕ) → h₁ ≡ copiedRun (set h f (at h i)) (i + 1) (f + 1) n → length (set h₁ i m) ≡ length h
-    copied-same n m h₁ e = length-set h₁ i m ∙ ap length e ∙ copied-length (set h f (at h i)) (i + 1) (f + 1) n ∙ length-set h f (at h i)
+    pub copied-same : (n w m : ℕ) (h₁ : List ℕ) → h₁ ≡ copiedRun (set h f w) (i + 1) (f + 1) n → length (set h₁ i m) ≡ length h
+    copied-same n w m h₁ e = length-set h₁ i m ∙ ap length e ∙ copied-length (set h f w) (i + 1) (f + 1) n ∙ length-set h f w
 
     pub found-is : (a : ℕ) → Y .isHeader (at h i) ≡ false → a ≡ Y .unmark (at h i) → left h a f Found ≡ relocated Y h i f
     found-is a e ea = rw (relocated-found e, ea)

@@ -10,9 +10,9 @@ use lib.ListN.{length}
 use Rattle.model.specs.Words.{at}
 use Rattle.model.specs.Headers.{Layout}
 use Rattle.model.specs.Objects.{isTraced, size}
-use Rattle.collector.specs.Scanning.{Scan, scan, between, After, after, Freed, freed, ended, onward, valuesOf, rawsOf, fieldPassed, passed, run, MayPass, SafeRun, MayPassField, MayPassFields, MayPassObject}
+use Rattle.collector.specs.Scanning.{Scan, scan, between, After, after, freed, ended, onward, valuesOf, rawsOf, fieldPassed, passed, run, MayPass, SafeRun, MayPassField, MayPassFields, MayPassObject}
 use Rattle.collector.proofs.PassingLaws.{passed-header, passed-raw, passed-value, Keeps, passed-keeps}
-use Rattle.collector.proofs.RunLaws.{run-done, run-step, safe-room, safe-step, turn-may, turn-run, turn-safe, run-at, run-cut, safe-first, safe-rest, run-length}
+use Rattle.collector.proofs.RunLaws.{run-done, run-step, safe-room, turn-may, turn-run, turn-safe, run-at, run-cut, safe-first, safe-rest, run-length}
 
 module _ (Y : Layout) where
   -- ---- field i of n, those before it passed
@@ -64,7 +64,7 @@ module _ (Y : Layout) where
 
   -- ---- raw words
 
-  pub skipped : (n : ℕ) (h : List ℕ) (i f : ℕ) → i + n ≤ f → run Y n h (scan i 0 n f) ≡ after h (between (i + n) f)
+  skipped : (n : ℕ) (h : List ℕ) (i f : ℕ) → i + n ≤ f → run Y n h (scan i 0 n f) ≡ after h (between (i + n) f)
   unfolding run
   skipped zero h i f l = ap (λ (x : ℕ). after h (between x f)) (sym (add-zero i))
   skipped (suc n) h i f l =
@@ -84,7 +84,7 @@ module _ (Y : Layout) where
     header-may : MayPass Y h (between i f)
     header-may = turn-may Y h (between i f) (may .before) (size Y h i) n (add-one n) (may .safe)
 
-    pub object-whole : i + 1 + n ≤ f
+    object-whole : i + 1 + n ≤ f
     object-whole = omega (arith, header-may .whole refl refl)
 
     pub object-within : i < length h

@@ -1,16 +1,15 @@
 -- One word passed midway in a collection: the scan stands one word further, at the order that the word's visit gives.
 -- Assumes nothing.
-use Prim.Native.Nat.{ℕ, suc, _+_, _-_, _≤_, _<_}
+use Prim.Native.Nat.{ℕ, suc, _+_, _-_, _<_}
 use native.Mathlib.Nat.{add-zero}
 use native.Mathlib.Omega.{arith}
 use mathlib.Core.Path.{_≡_, refl, sym, ap, _∙_, subst}
 use mathlib.Core.Logic.{⊎-elim}
 use mathlib.Core.List.{List, [], _∷_, _++_, append-nil}
-use mathlib.Core.Option.{Option, some}
-use lib.ListN.{length, getD, set}
-use Rattle.model.specs.Words.{State, at, halfWords, otherFirst}
+use mathlib.Core.Option.{Option}
+use lib.ListN.{length, getD}
+use Rattle.model.specs.Words.{State, at, otherFirst}
 use Rattle.model.specs.Headers.{Layout, Lawful}
-use Rattle.model.specs.Objects.{size}
 use Rattle.model.specs.Discovery.{mem, visit, packed}
 use Rattle.model.specs.Soundness.{headers}
 use Rattle.model.specs.Collection.{Cell, still, value, cells, wordLeads, cellLeads, settle}

@@ -4,7 +4,7 @@ use native.Mathlib.Omega.{arith}
 use mathlib.Core.Path.{_≡_, refl, sym, ap, _∙_}
 use mathlib.Core.Logic.{⊎-elim}
 use mathlib.Core.List.{List}
-use lib.ListN.{length, set, length-set}
+use lib.ListN.{length, length-set}
 use lib.Seq.{set-getD}
 use borrow.Author.Tests.{eq-eqb, ne-eqb}
 use Rattle.model.specs.Words.{at}
@@ -12,7 +12,7 @@ use Rattle.model.specs.Headers.{Layout}
 use Rattle.model.proofs.Tests.{same?}
 use Rattle.collector.specs.declared.moving.Met.the-variants.{Plain}
 use Rattle.collector.specs.Moving.{Left, left, renamed}
-use Rattle.collector.specs.Scanning.{Scan, After, Freed, freed, stored, onward, valuesOf, rawsOf, fieldPassed, passed}
+use Rattle.collector.specs.Scanning.{Scan, After, freed, stored, onward, valuesOf, rawsOf, fieldPassed, passed}
 use Rattle.collector.proofs.MovingLaws.{renamed-length, renamed-free, renamed-nothing}
 
 module _ (Y : Layout) where

@@ -8,7 +8,7 @@ use mathlib.Core.List.{List, [], _∷_, _++_}
 use mathlib.Core.Option.{some}
 use lib.ListN.{length}
 use Rattle.model.specs.Limits.{maxWords}
-use Rattle.model.specs.Words.{State, at, halfWords, otherFirst}
+use Rattle.model.specs.Words.{State, at, otherFirst}
 use Rattle.model.specs.Values.{isAddress}
 use Rattle.model.specs.Headers.{Layout, Lawful}
 use Rattle.model.specs.Objects.{address, index, size}
@@ -18,13 +18,13 @@ use Rattle.model.specs.Collection.{cells, wordLeads, rename}
 use Rattle.model.proofs.Tests.{by-test, never}
 use Rattle.model.proofs.Members.{In, Out}
 use Rattle.model.proofs.Packed.{wordsBefore-last}
-use Rattle.model.proofs.Shape.{Shaped, other-in}
+use Rattle.model.proofs.Shape.{other-in}
 use Rattle.model.proofs.Soundness.{Sound}
 use Rattle.model.proofs.Values.{address-leads}
 use Rattle.model.proofs.Keeping.{tile}
 use Rattle.model.proofs.Middle.{visit-again, visit-new, visit-none, plain-leads, rename-plain, rename-address, header-within, distinct-fits}
 use Rattle.collector.specs.declared.moving.Met.the-variants.{Copied, Found}
-use Rattle.collector.specs.Moving.{Left, left, moved, renamed, MayMove, MayRename}
+use Rattle.collector.specs.Moving.{left, moved, renamed, MayRename}
 use Rattle.collector.proofs.MovingLaws.{relocated-copied, relocated-found, renamed-address, renamed-plain}
 use Rattle.collector.proofs.Midway.{Midway, header-kept, same-size, more-words, copy-within, moved-midway}
 

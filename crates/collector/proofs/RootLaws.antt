@@ -3,13 +3,13 @@ use Prim.Native.Nat.{ℕ, suc, _+_, _-_, _<_}
 use native.Mathlib.Numerals.{add-one}
 use native.Mathlib.Omega.{arith}
 use mathlib.Core.Path.{_≡_, refl, sym, ap, _∙_, subst}
-use mathlib.Core.List.{List, [], _∷_, _++_, append-nil}
+use mathlib.Core.List.{List, _∷_, _++_, append-nil}
 use lib.ListN.{length, getD, set, take, drop}
 use lib.Seq.{take-suc-set, drop-set-lt, drop-cons, append-snoc, drop-length, take-length}
 use Rattle.model.specs.Headers.{Layout}
 use Rattle.words.specs.Runs.{cleared}
 use Rattle.collector.specs.Moving.{Left, renamed, MayRename}
-use Rattle.collector.specs.Scanning.{After, Freed, freed, ended, between, run, SafeRun}
+use Rattle.collector.specs.Scanning.{Freed, freed, ended, between, run, SafeRun}
 use Rattle.collector.specs.Evacuation.{Emptied, emptied, rootFirst, rooted, SafeRoots, scanned, evacuated, SafeEvacuation}
 use Rattle.collector.proofs.MovingLaws.{renamed-length}
 

@@ -11,7 +11,7 @@ use borrow.Author.Tests.{lt-ltb, le-ltb}
 use Rattle.model.specs.Headers.{Layout}
 use Rattle.model.proofs.Tests.{decide}
 use Rattle.collector.specs.Scanning.{Scan, After, after, passed, run, MayPass, SafeRun}
-use Rattle.collector.proofs.PassingLaws.{Keeps, passed-keeps}
+use Rattle.collector.proofs.PassingLaws.{passed-keeps}
 
 module _ (Y : Layout) where
   pub run-done : (n : ℕ) (h : List ℕ) (c : Scan) → c .free ≤ c .at → run Y n h c ≡ after h c
@@ -28,7 +28,7 @@ module _ (Y : Layout) where
   safe-room zero h c s = s
   safe-room (suc n) h c s = s .0
 
-  pub safe-step : (n : ℕ) (h : List ℕ) (c : Scan) → c .at < c .free → SafeRun Y (suc n) h c
+  safe-step : (n : ℕ) (h : List ℕ) (c : Scan) → c .at < c .free → SafeRun Y (suc n) h c
       → MayPass Y h c × SafeRun Y n (passed Y h c .heap) (passed Y h c .scan)
   unfolding SafeRun
   safe-step n h c d s = s .1 d

@@ -3,7 +3,7 @@
 use Prim.Native.Nat.{ℕ, zero, suc, _+_, _≤_, _<_, zero-le}
 use native.Mathlib.Nat.{add-zero}
 use native.Mathlib.Omega.{arith}
-use mathlib.Core.Path.{_≡_, refl, sym, ap, _∙_, subst}
+use mathlib.Core.Path.{_≡_, refl, sym, ap, subst}
 use mathlib.Core.Logic.{_⊎_, inl, inr, ⊎-elim}
 use mathlib.Core.Bool.{true}
 use mathlib.Core.List.{List, [], _∷_, map}
@@ -27,7 +27,7 @@ use Rattle.collector.specs.Scanning.{Scan, between, After, passed, run, 
 use Rattle.collector.specs.Evacuation.{Emptied, rooted, SafeRoots}
 use Rattle.collector.proofs.RunLaws.{run-done, run-step}
 use Rattle.collector.proofs.Midway.{Midway}
-use Rattle.collector.proofs.Renaming.{Renames, renames}
+use Rattle.collector.proofs.Renaming.{renames}
 use Rattle.collector.proofs.Passing.{Scans, turn}
 
 -- what the roots' loop leaves, where o is then the order

@@ -66,8 +66,9 @@ pub fn collect_sound(heap: &mut [u32], roots: &mut [u32], record: Record) -> Col
     let new = shape::first_of(words, other);
     let used = record.free.0 - old.0;
     let end = evacuate(heap, roots, old, used, new);
+    let live = (end.0 - new.0) as u32;
     Collected {
-        live: (end.0 - new.0) as u32,
+        live,
         record: Record {
             half: other,
             free: end,

@@ -42,10 +42,12 @@ pub fn relocate(heap: &mut [u32], object: Index, free: Index) -> Moved
         heap[to] = header;
         runs::copy(heap, from + 1, to + 1, n);
         let copy = Tuple::address_of(free);
-        heap[from] = Tuple::mark(copy);
+        let mark = Tuple::mark(copy);
+        heap[from] = mark;
+        let end = to + 1 + n;
         return Moved {
             to: copy,
-            free: Index(to + 1 + n),
+            free: Index(end),
             met: Met::Copied,
         };
     }

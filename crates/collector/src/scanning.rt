@@ -42,7 +42,8 @@ fn pass_fields(heap: &mut [u32], first: Index, n: usize, free: Index) -> Index
     let mut free = free;
     let mut i: usize = 0;
     while i < n {
-        free = pass_field(heap, Index(from + i), free);
+        let at = from + i;
+        free = pass_field(heap, Index(at), free);
         i += 1;
     }
     free
@@ -56,12 +57,19 @@ fn pass_object(heap: &mut [u32], object: Index, free: Index) -> Passed
     let at = object.0;
     let header = heap[at];
     let n = Tuple::count_of(header);
-    let next = Index(at + 1 + n);
+    let fields = at + 1;
+    let next = fields + n;
     if Tuple::is_traced(header) {
-        let free = pass_fields(heap, Index(at + 1), n, free);
-        return Passed { next, free };
+        let free = pass_fields(heap, Index(fields), n, free);
+        return Passed {
+            next: Index(next),
+            free,
+        };
     }
-    Passed { next, free }
+    Passed {
+        next: Index(next),
+        free,
+    }
 }
 
 // Passes objects until the scan has met the free words. Answers the word past the copies.

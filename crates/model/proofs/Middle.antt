@@ -8,13 +8,13 @@ use mathlib.Core.Logic.{_⊎_, inl, inr, ⊎-elim}
 use mathlib.Core.Bool.{true, false}
 use mathlib.Core.List.{List, [], _∷_, _++_, map, append-nil}
 use mathlib.Core.Option.{none, some}
-use lib.ListN.{length, getD, take, drop, drop-of-length-le}
+use lib.ListN.{length, getD, drop-of-length-le}
 use lib.Seq.{take-all}
 use Rattle.model.specs.declared.Half.{Half}
 use Rattle.model.specs.declared.Half.the-variants.{A, B}
 use Rattle.model.specs.declared.Kind.{Kind}
 use Rattle.model.specs.declared.Kind.the-variants.{Traced, Untraced}
-use Rattle.model.specs.Collection.{Cell, still, value, build, fieldCell, cells, wordLeads, cellLeads, orderAt, rename, settle}
+use Rattle.model.specs.Collection.{Cell, still, build, fieldCell, cells, wordLeads, cellLeads, orderAt, rename}
 use Rattle.model.specs.Discovery.{visit, packed, wordsBefore, found}
 use Rattle.model.specs.During.{oldWord, stage, during}
 use Rattle.model.specs.Headers.{Layout}
@@ -43,14 +43,9 @@ halves-ordered s = go (s .«record» .half) (halfWords (s .heap))
     go A S = inl (omega arith)
     go B S = inr (omega arith)
 
-pub build-null : (f : Half) (new old : List ℕ) → at (build f new old) 0 ≡ 0
+build-null : (f : Half) (new old : List ℕ) → at (build f new old) 0 ≡ 0
 build-null A new old = refl
 build-null B new old = refl
-
--- two functions that agree on a list's elements
-pub map-at : (f g : ℕ → ℕ) (xs : List ℕ) → ((r : ℕ) → r < length xs → f (at xs r) ≡ g (at xs r)) → map f xs ≡ map g xs
-map-at f g [] e = refl
-map-at f g (x ∷ xs) e = rw (e 0 (omega arith), map-at f g xs (λ r l. e (suc r) (omega arith)))
 
 -- ---- one more visit
 

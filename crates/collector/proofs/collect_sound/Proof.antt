@@ -1,7 +1,6 @@
 -- `collector::collect_sound` meets its contract: the evacuation of a sound heap leaves what `collected` says.
 use native.Mathlib.Omega.{arith}
 use Rattle.model.proofs.Headers.{tuple-lawful}
-use Rattle.model.proofs.Shape.{Shaped}
 use Rattle.collector.proofs.Contract.{shape, may-evacuate, end-low, end-high, collect-is}
 use borrow.Author.Needs.{needs}
 use Rattle.collector.proofs.collect_sound.Statement.{statement}
@@ -30,11 +29,11 @@ sub-used c = omega (arith, shape _ tuple-lawful _ (c .before .before .before .be
 evacuate-requires : tie.Need-evacuate-requires
 evacuate-requires c κs = may-evacuate _ tuple-lawful _ (c .before .before .before .before .before .before .before .before .before .pre) _ _ _ (c .before .before .before .before .before .before .other-half .ensures) (c .before .before .before .before .before .first-of .ensures) (c .before .before .before .before .first-of2 .ensures)
 
-sub-t11 : tie.Need-sub-t11
-sub-t11 c = end-low _ tuple-lawful _ (c .before .before .before .before .before .before .before .before .before .before .before .before .before .before .before .before .pre) _ _ _ (c .before .before .before .before .before .before .before .before .before .before .before .before .before .other-half .ensures) (c .before .before .before .before .before .before .before .before .before .before .before .before .first-of .ensures) (c .before .before .before .before .before .before .before .before .before .before .before .first-of2 .ensures) _ _ _ (c .before .before .before .before .before .before .evacuate .ensures)
+sub-live : tie.Need-sub-live
+sub-live c = end-low _ tuple-lawful _ (c .before .before .before .before .before .before .before .before .before .before .before .before .before .before .before .before .pre) _ _ _ (c .before .before .before .before .before .before .before .before .before .before .before .before .before .other-half .ensures) (c .before .before .before .before .before .before .before .before .before .before .before .before .first-of .ensures) (c .before .before .before .before .before .before .before .before .before .before .before .first-of2 .ensures) _ _ _ (c .before .before .before .before .before .before .evacuate .ensures)
 
-cast-t17 : tie.Need-cast-t17
-cast-t17 c = omega (arith, end-high _ tuple-lawful _ (c .before .before .before .before .before .before .before .before .before .before .before .before .before .before .before .before .pre) _ _ _ (c .before .before .before .before .before .before .before .before .before .before .before .before .before .other-half .ensures) (c .before .before .before .before .before .before .before .before .before .before .before .before .first-of .ensures) (c .before .before .before .before .before .before .before .before .before .before .before .first-of2 .ensures) _ _ _ (c .before .before .before .before .before .before .evacuate .ensures))
+cast-live : tie.Need-cast-live
+cast-live c = omega (arith, end-high _ tuple-lawful _ (c .before .before .before .before .before .before .before .before .before .before .before .before .before .before .before .before .pre) _ _ _ (c .before .before .before .before .before .before .before .before .before .before .before .before .before .other-half .ensures) (c .before .before .before .before .before .before .before .before .before .before .before .before .first-of .ensures) (c .before .before .before .before .before .before .before .before .before .before .before .first-of2 .ensures) _ _ _ (c .before .before .before .before .before .before .evacuate .ensures))
 
 same-length : tie.Need-same-length
 same-length c = search needs
@@ -55,8 +54,8 @@ collect-sound-spec =
     first-of-requires-2
     sub-used
     evacuate-requires
-    sub-t11
-    cast-t17
+    sub-live
+    cast-live
     same-length
     same-length-2
     returns)

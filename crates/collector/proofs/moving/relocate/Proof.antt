@@ -1,6 +1,6 @@
 -- `collector::moving::relocate` meets its contract: each return is a case of `relocated`, from what the calls answer.
 use native.Mathlib.Omega.{arith}
-use mathlib.Core.Path.{_≡_, sym, _∙_}
+use mathlib.Core.Path.{sym, _∙_}
 use lib.ListN.{length-set}
 use Rattle.model.specs.Headers.{tuple}
 use Rattle.collector.proofs.MovingLaws.{copied-is, copied-same, found-is}
@@ -57,20 +57,21 @@ mul-heap-2 c = search needs
 slice-write-heap-2 : tie.Need-slice-write-heap-2
 slice-write-heap-2 c = search needs
 
-add-t18 : tie.Need-add-t18
-add-t18 c = search needs
+add-end : tie.Need-add-end
+add-end c = search needs
 
-add-t13 : tie.Need-add-t13
-add-t13 c = search needs
+add-end-2 : tie.Need-add-end-2
+add-end-2 c = search needs
 
 same-length : tie.Need-same-length
 same-length c =
     let s = c .before .before .before .before .before .before .before .before .before .before .before in
-    copied-same tuple (s .args .heap .now) (s .args .object .0) (s .args .free .0) _ _ _ (c .before .before .before .before .copy .ensures)
+    copied-same tuple (s .args .heap .now) (s .args .object .0) (s .args .free .0) _ _ _ _ (c .before .before .before .before .copy .ensures)
 
 returns : tie.Need-returns
 returns c =
-    copied-is _ _ _ _ _ _ _ _ (sym (c .before .before .before .before .before .before .before .before .is-header .ensures) ∙ c .before .before .before .before .before .before .before .if1 .taken) (c .before .before .before .before .before .before .count-of .ensures .0) (c .before .before .before .before .copy .ensures) (c .before .address-of .ensures) (c .mark .ensures)
+    let s = c .before .before .before .before .before .before .before .before .before .before .before in
+    copied-is tuple (s .args .heap .now) (s .args .object .0) (s .args .free .0) _ _ _ _ (sym (c .before .before .before .before .before .before .before .before .is-header .ensures) ∙ c .before .before .before .before .before .before .before .if1 .taken) (c .before .before .before .before .before .before .count-of .ensures .0) (c .before .before .before .before .copy .ensures) (c .before .address-of .ensures) (c .mark .ensures)
 
 unmark-requires : tie.Need-unmark-requires
 unmark-requires c κs = sym (c .before .is-header .ensures) ∙ c .if1 .left
@@ -95,8 +96,8 @@ relocate-spec =
     mark-requires
     mul-heap-2
     slice-write-heap-2
-    add-t18
-    add-t13
+    add-end
+    add-end-2
     same-length
     returns
     unmark-requires

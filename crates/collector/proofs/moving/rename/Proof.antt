@@ -1,5 +1,5 @@
 -- `collector::moving::rename` meets its contract: an address is relocated, any other word stays.
-use mathlib.Core.Path.{_≡_, sym, _∙_}
+use mathlib.Core.Path.{sym, _∙_}
 use Rattle.collector.proofs.MovingLaws.{renamed-address, renamed-plain}
 use borrow.Author.Needs.{needs}
 use Rattle.collector.proofs.moving.rename.Statement.{statement}

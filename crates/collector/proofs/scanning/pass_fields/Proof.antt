@@ -6,7 +6,6 @@ use mathlib.Core.Path.{_≡_, refl, sym, _∙_}
 use lib.ListN.{length}
 use Rattle.model.specs.Headers.{tuple}
 use Rattle.collector.specs.Scanning.{scan, run, SafeRun}
-use Rattle.collector.proofs.PassingLaws.{Keeps}
 use Rattle.collector.proofs.ObjectLaws.{field-may, field-keeps, field-run, field-safe, fields-done}
 use Rattle.collector.proofs.scanning.pass_fields.Statement.{statement}
 use Rattle.collector.proofs.scanning.pass_fields.Tie as tie
@@ -25,8 +24,8 @@ abbrev μ-loop : tie.MeasureT-loop
 loop-holds : tie.Need-loop-holds Inv-loop μ-loop
 loop-holds c = (omega arith, c .before .pre .whole, simp (add-zero, sub-zero), simp (add-zero, sub-zero) (c .before .pre .safe), refl)
 
-add-t11 : tie.Need-add-t11 Inv-loop μ-loop
-add-t11 c = omega arith
+add-at : tie.Need-add-at Inv-loop μ-loop
+add-at c = omega arith
 
 pass-field-requires : tie.Need-pass-field-requires Inv-loop μ-loop
 pass-field-requires c κs = field-may _ _ _ _ _ _ (c .before .loop-test .taken) (c .before .before .loop .inv .1) (c .before .before .loop .inv .3)
@@ -65,7 +64,7 @@ pass-fields-spec =
     Inv-loop
     μ-loop
     loop-holds
-    add-t11
+    add-at
     pass-field-requires
     add-i
     loop-less

@@ -1,8 +1,7 @@
 -- `collector::scanning::pass_object` meets its contract: the header is one word of the run, and its fields or raw words are the others.
 use native.Mathlib.Omega.{arith}
-use mathlib.Core.Path.{_≡_, sym, _∙_}
-use Rattle.model.specs.Headers.{tuple}
-use Rattle.collector.proofs.ObjectLaws.{object-within, object-whole, fields-may, traced-is, untraced-is}
+use mathlib.Core.Path.{sym, _∙_}
+use Rattle.collector.proofs.ObjectLaws.{object-within, fields-may, traced-is, untraced-is}
 use borrow.Author.Needs.{needs}
 use Rattle.collector.proofs.scanning.pass_object.Statement.{statement}
 use Rattle.collector.proofs.scanning.pass_object.Tie as tie
@@ -21,17 +20,14 @@ slice-read-header c = object-within _ _ _ _ (c .before .before .pre)
 count-of-requires : tie.Need-count-of-requires
 count-of-requires c κs = search needs
 
-add-t9 : tie.Need-add-t9
-add-t9 c = search needs
+add-fields : tie.Need-add-fields
+add-fields c = search needs
 
-add-t12 : tie.Need-add-t12
-add-t12 c = omega (arith, object-within _ _ _ _ (c .before .before .before .pre), c .count-of .ensures)
+add-next : tie.Need-add-next
+add-next c = omega (arith, object-within _ _ _ _ (c .before .before .before .pre), c .count-of .ensures)
 
 is-traced-requires : tie.Need-is-traced-requires
 is-traced-requires c κs = search needs
-
-add-t16 : tie.Need-add-t16
-add-t16 c = search needs
 
 pass-fields-requires : tie.Need-pass-fields-requires
 pass-fields-requires c κs = fields-may _ _ _ _ (c .before .before .before .before .before .before .pre) _ (c .before .before .before .count-of .ensures .0) (sym (c .before .before .is-traced .ensures) ∙ c .before .if1 .taken)
@@ -52,10 +48,9 @@ pass-object-spec =
     mul-header
     slice-read-header
     count-of-requires
-    add-t9
-    add-t12
+    add-fields
+    add-next
     is-traced-requires
-    add-t16
     pass-fields-requires
     same-length
     returns

@@ -1,6 +1,6 @@
 -- `collector::scanning::pass_objects` meets its contract. The invariant: to pass what is left gives what passing all gave.
 use Prim.Native.Nat.{_-_}
-use mathlib.Core.Path.{_≡_, refl, ap, sym, _∙_}
+use mathlib.Core.Path.{_≡_, refl, ap, _∙_}
 use lib.ListN.{length}
 use Rattle.model.specs.Headers.{tuple}
 use Rattle.collector.specs.Scanning.{between, ended, run, SafeRun}
