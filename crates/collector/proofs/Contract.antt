@@ -17,7 +17,7 @@ use Rattle.model.proofs.Soundness.{Sound, sound-parts}
 use Rattle.model.proofs.Order.{order-fits}
 use Rattle.model.proofs.Collected.{live-is}
 use Rattle.collector.specs.Evacuation.{Emptied, emptied, evacuated, SafeEvacuation}
-use Rattle.collector.proofs.End.{safe, left, ended-is, free-is}
+use Rattle.collector.proofs.End.{safe, leaves, ended-is, free-is}
 
 module _ (Y : Layout) (K : Lawful Y) (s : State) (e : sound Y s ≡ true) where
   v : Sound Y s
@@ -34,7 +34,7 @@ module _ (Y : Layout) (K : Lawful Y) (s : State) (e : sound Y s ≡ true) where
     may-evacuate = rw (o, new-is) (safe Y K s v)
 
     module _ (h′ rs′ : List ℕ) (end : ℕ) (q : emptied h′ rs′ end ≡ evacuated Y (s .heap) (s .roots) old (free s - old) new) where
-      there : emptied h′ rs′ end ≡ left Y K s v
+      there : emptied h′ rs′ end ≡ leaves Y K s v
       there =
           q ∙ ap (λ (x : ℕ). evacuated Y (s .heap) (s .roots) x (free s - x) new) o
           ∙ ap (evacuated Y (s .heap) (s .roots) (firstWord s) (free s - firstWord s)) new-is

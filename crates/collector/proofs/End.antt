@@ -114,11 +114,11 @@ module _ (Y : Layout) (K : Lawful Y) (s : State) (v : Sound Y s) where
   last : stateAfter Y s n ≡ during Y s n
   last = state-is Y K s v n
 
-  -- THE END
-  abbrev pub left : Emptied
-  left = evacuated Y (s .heap) (s .roots) (firstWord s) (free s - firstWord s) (otherFirst s)
+  abbrev pub leaves : Emptied
+  leaves = evacuated Y (s .heap) (s .roots) (firstWord s) (free s - firstWord s) (otherFirst s)
 
-  pub ended-is : lent (left .heap) (left .roots) (record { half = other (s .«record» .half); free = record { 0 = left .free } }) ≡ collected Y s
+  -- THE END
+  pub ended-is : lent (leaves .heap) (leaves .roots) (record { half = other (s .«record» .half); free = record { 0 = leaves .free } }) ≡ collected Y s
   unfolding evacuated stateAfter
   ended-is =
       λ i. record {
@@ -127,5 +127,5 @@ module _ (Y : Layout) (K : Lawful Y) (s : State) (v : Sound Y s) where
         «record» = (ap (λ (d : State). d .«record») last ∙ end-record Y s v n over) i;
       }
 
-  pub free-is : left .free ≡ otherFirst s + live Y s
+  pub free-is : leaves .free ≡ otherFirst s + live Y s
   free-is = ap (λ (d : State). free d) ended-is ∙ new-free Y s v

@@ -83,8 +83,10 @@ module _ (Y : Layout) where
   pub record MayPass (h : List ℕ) (c : Scan) : Type 0 where
     -- an object that the scan comes to lies before the free words
     pub whole : c .values ≡ 0 → c .raws ≡ 0 → c .at + size Y h (c .at) ≤ c .free
+    -- what a value leads to may be moved
     pub moves : (c .values ≡ 0 → ⊥) → MayRename Y h (at h (c .at)) (c .free)
 
+  -- the free words lie in the heap, and each word that is passed may be
   unfoldable pub SafeRun : ℕ → List ℕ → Scan → Type 0
   SafeRun zero h c = c .free ≤ length h
   SafeRun (suc n) h c = (c .free ≤ length h) × (c .at < c .free → MayPass h c × SafeRun n (passed h c .heap) (passed h c .scan))
