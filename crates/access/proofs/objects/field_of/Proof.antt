@@ -1,6 +1,7 @@
 -- `access::objects::field_of` meets its contract, by one law of its three tests; an object that is named lies in the heap.
 use borrow.Author.Tests.{le-leb, lt-leb, not-false}
 use Prim.Native.Nat.{ℕ}
+use native.Mathlib.Omega.{arith}
 use mathlib.Core.Path.{refl, sym, ap, _∙_}
 use lib.Dec.{leb}
 use mathlib.Core.Bool.{not}
@@ -43,7 +44,7 @@ count-of-requires : tie.Need-count-of-requires
 count-of-requires c κs = search needs
 
 returns-3 : tie.Need-returns-3
-returns-3 c = λ R. field-tests _ _ _ _ _ (lent (c .before .before .before .before .before .before .before .before .before .args .heap .now) R (c .before .before .before .before .before .before .before .before .before .args .«record»)) (c .before .before .before .before .before .index-of .ensures) (ap not (sym (c .before .before .before .before .before .before .before .names .ensures R)) ∙ c .before .before .before .before .before .before .if1 .left) (ap not (sym (c .before .before .before .is-of-kind .ensures)) ∙ c .before .before .if2 .left) (ap (λ (n : ℕ). leb n (c .before .before .before .before .before .before .before .before .before .args .field)) (sym (c .before .count-of .ensures .0)) ∙ le-leb _ _ (c .if3 .taken))
+returns-3 c = λ R. field-tests _ _ _ _ _ (lent (c .before .before .before .before .before .before .before .before .before .args .heap .now) R (c .before .before .before .before .before .before .before .before .before .args .«record»)) (c .before .before .before .before .before .index-of .ensures) (ap not (sym (c .before .before .before .before .before .before .before .names .ensures R)) ∙ c .before .before .before .before .before .before .if1 .left) (ap not (sym (c .before .before .before .is-of-kind .ensures)) ∙ c .before .before .if2 .left) (ap (λ (n : ℕ). leb n (c .before .before .before .before .before .before .before .before .before .args .field)) (sym (c .before .count-of .ensures .0)) ∙ le-leb (c .before .count-of .result) (c .before .before .before .before .before .before .before .before .before .args .field) (omega arith))
 
 add-t13 : tie.Need-add-t13
 add-t13 c = search needs
