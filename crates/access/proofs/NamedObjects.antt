@@ -2,16 +2,16 @@
 use Prim.Native.Nat.{ℕ, _+_, _≤_, _<_, _%_}
 use native.Mathlib.Omega.{arith}
 use mathlib.Core.Path.{_≡_, sym}
-use mathlib.Core.Bool.{true, false, _&&_}
+use mathlib.Core.Bool.{Bool, true, false, _&&_}
 use mathlib.Core.List.{List}
 use lib.Dec.{ltb, leb, eqb}
 use lib.ListN.{length}
-use borrow.Author.Tests.{leb-true, eq-eqb, lt-ltb, le-leb}
+use borrow.Author.Tests.{leb-true}
 use Rattle.model.specs.declared.Record.{Record}
 use Rattle.model.specs.Words.{State, at, lent, firstWord, free}
 use Rattle.model.specs.Values.{isAddress}
 use Rattle.model.specs.Headers.{Layout}
-use Rattle.model.specs.Objects.{index, fieldCount, size, names}
+use Rattle.model.specs.Objects.{index, size, names}
 use Rattle.model.specs.Shape.{badShape}
 use Rattle.model.proofs.Tests.{and-both}
 use Rattle.model.proofs.Shape.{shaped, first-in}
@@ -24,13 +24,12 @@ free-in-heap s h =
     record { least = omega arith; within = omega arith; most = omega arith }
 
 module _ (Y : Layout) where
-  -- where the tests before hold, the last one decides: the object ends at or before the free index
-  pub names-last : (s : State) (w i first n : ℕ) → i ≡ index Y w → first ≡ firstWord s → n ≡ fieldCount Y (s .heap) i
-      → isAddress w ≡ true → w % 4 ≡ 0 → first ≤ i → i < free s → Y .isHeader (at (s .heap) i) ≡ true
-      → leb (i + (n + 1)) (free s) ≡ names Y s w
+  -- the name by its six tests, whatever each comes to, at the index and the half's first word as the code has them
+  pub names-tests : {a b c d h l : Bool} (s : State) (w i first : ℕ) → i ≡ index Y w → first ≡ firstWord s
+      → isAddress w ≡ a → eqb (w % 4) 0 ≡ b → leb first i ≡ c → ltb i (free s) ≡ d → Y .isHeader (at (s .heap) i) ≡ h
+      → leb (i + size Y (s .heap) i) (free s) ≡ l → (a && b && c && d && h && l) ≡ names Y s w
   unfolding names
-  names-last s w i first n e f d a m l b h =
-      simp (sym e, sym f, sym d, a, eq-eqb (w % 4) 0 m, le-leb first i l, lt-ltb i (free s) b, h)
+  names-tests s w i first e f pa pb pc pd ph pl = simp (sym e, sym f, pa, pb, pc, pd, ph, pl)
 
   pub named-ends : (s : State) (w : ℕ) → names Y s w ≡ true → index Y w + size Y (s .heap) (index Y w) ≤ free s
   unfolding names

@@ -5,7 +5,7 @@ use mathlib.Core.Path.{_≡_, refl, sym, ap, _∙_}
 use mathlib.Core.Bool.{Bool, true, false, not, cond, _||_, or-self}
 use lib.Dec.{leb}
 use lib.ListN.{length}
-use borrow.Author.Tests.{leb-false, lt-leb, not-false}
+use borrow.Author.Tests.{leb-false, not-false}
 use Rattle.model.specs.declared.Index.{Index}
 use Rattle.model.specs.declared.Kind.{Kind}
 use Rattle.model.specs.declared.Kind.the-variants.{Traced, Untraced}
@@ -57,11 +57,12 @@ pub record Reaches (s : State) (r q : ℕ) (i : Index) : Type 0 where
   pub other : q < length (s .roots)
 
 module _ (Y : Layout) where
-  -- where the three tests hold, the field's word stands so many words after the header
-  pub field-given : (k : Kind) (w f i : ℕ) (s : State) → i ≡ index Y w → names Y s w ≡ true → isOfKind k (kind Y (s .heap) i) ≡ true → f < fieldCount Y (s .heap) i
-      → At (record { 0 = fieldIndex i f }) ≡ fieldOf Y k w f s
+  -- the field by its three tests, whatever each comes to, at the header's index as the code has it
+  pub field-tests : {a b c : Bool} (k : Kind) (w f i : ℕ) (s : State) → i ≡ index Y w
+      → not (names Y s w) ≡ a → not (isOfKind k (kind Y (s .heap) i)) ≡ b → leb (fieldCount Y (s .heap) i) f ≡ c
+      → cond a (Refused Why.Object) (cond b (Refused Why.Kind) (cond c (Refused Why.Field) (At (record { 0 = fieldIndex i f })))) ≡ fieldOf Y k w f s
   unfolding fieldOf
-  field-given k w f i s e n o l = simp (sym e, n, o, lt-leb (fieldCount Y (s .heap) i) f l)
+  field-tests k w f i s e pa pb pc = simp (sym e, pa, pb, pc)
 
   on-reached : (k : Kind) (r f q : ℕ) (s : State) (next : ℕ → Outcome)
       → refuse (badShape s) Why.Shape s

@@ -1,12 +1,14 @@
--- `access::objects::field_of` meets its contract, test by test; an object that is named lies in the heap.
-use borrow.Author.Tests.{le-leb, not-false}
-use mathlib.Core.Path.{sym, ap, _∙_}
+-- `access::objects::field_of` meets its contract, by one law of its three tests; an object that is named lies in the heap.
+use borrow.Author.Tests.{le-leb, lt-leb, not-false}
+use Prim.Native.Nat.{ℕ}
+use native.Mathlib.Omega.{arith}
+use mathlib.Core.Path.{refl, sym, ap, _∙_}
+use lib.Dec.{leb}
 use mathlib.Core.Bool.{not}
 use mathlib.Core.List.{[]}
 use Rattle.model.specs.Words.{lent}
-use Rattle.access.specs.Leaves.{fieldOf}
 use Rattle.access.proofs.NamedObjects.{header-in}
-use Rattle.access.proofs.ReachedFields.{field-given}
+use Rattle.access.proofs.ReachedFields.{field-tests}
 use borrow.Author.Needs.{needs}
 use Rattle.access.proofs.objects.field_of.Statement.{statement}
 use Rattle.access.proofs.objects.field_of.Tie as tie
@@ -21,8 +23,7 @@ names-requires : tie.Need-names-requires
 names-requires c κs = search needs
 
 returns : tie.Need-returns
-unfolding fieldOf
-returns c = λ R. simp (ap not (sym (c .before .names .ensures R)) ∙ c .if1 .taken)
+returns c = λ R. field-tests _ _ _ _ _ (lent (c .before .before .before .args .heap .now) R (c .before .before .before .args .«record»)) refl (ap not (sym (c .before .names .ensures R)) ∙ c .if1 .taken) refl refl
 
 index-of-requires : tie.Need-index-of-requires
 index-of-requires c κs = search needs
@@ -37,15 +38,13 @@ is-of-kind-requires : tie.Need-is-of-kind-requires
 is-of-kind-requires c κs = search needs
 
 returns-2 : tie.Need-returns-2
-unfolding fieldOf
-returns-2 c = λ R. simp (sym (c .before .before .before .index-of .ensures), ap not (sym (c .before .before .before .before .before .names .ensures R)) ∙ c .before .before .before .before .if1 .left, ap not (sym (c .before .is-of-kind .ensures)) ∙ c .if2 .taken)
+returns-2 c = λ R. field-tests _ _ _ _ _ (lent (c .before .before .before .before .before .before .before .args .heap .now) R (c .before .before .before .before .before .before .before .args .«record»)) (c .before .before .before .index-of .ensures) (ap not (sym (c .before .before .before .before .before .names .ensures R)) ∙ c .before .before .before .before .if1 .left) (ap not (sym (c .before .is-of-kind .ensures)) ∙ c .if2 .taken) refl
 
 count-of-requires : tie.Need-count-of-requires
 count-of-requires c κs = search needs
 
 returns-3 : tie.Need-returns-3
-unfolding fieldOf
-returns-3 c = λ R. simp (sym (c .before .before .before .before .before .index-of .ensures), ap not (sym (c .before .before .before .before .before .before .before .names .ensures R)) ∙ c .before .before .before .before .before .before .if1 .left, ap not (sym (c .before .before .before .is-of-kind .ensures)) ∙ c .before .before .if2 .left, sym (c .before .count-of .ensures .0), le-leb _ _ (c .if3 .taken))
+returns-3 c = λ R. field-tests _ _ _ _ _ (lent (c .before .before .before .before .before .before .before .before .before .args .heap .now) R (c .before .before .before .before .before .before .before .before .before .args .«record»)) (c .before .before .before .before .before .index-of .ensures) (ap not (sym (c .before .before .before .before .before .before .before .names .ensures R)) ∙ c .before .before .before .before .before .before .if1 .left) (ap not (sym (c .before .before .before .is-of-kind .ensures)) ∙ c .before .before .if2 .left) (ap (λ (n : ℕ). leb n (c .before .before .before .before .before .before .before .before .before .args .field)) (sym (c .before .count-of .ensures .0)) ∙ le-leb (c .before .count-of .result) (c .before .before .before .before .before .before .before .before .before .args .field) (omega arith))
 
 add-t13 : tie.Need-add-t13
 add-t13 c = search needs
@@ -54,7 +53,7 @@ add-t18 : tie.Need-add-t18
 add-t18 c = search needs
 
 returns-4 : tie.Need-returns-4
-returns-4 c = λ R. field-given _ _ _ _ _ (lent (c .before .before .before .before .before .before .before .before .before .args .heap .now) R (c .before .before .before .before .before .before .before .before .before .args .«record»)) (c .before .before .before .before .before .index-of .ensures) (sym (c .before .before .before .before .before .before .before .names .ensures R) ∙ not-false _ (c .before .before .before .before .before .before .if1 .left)) (sym (c .before .before .before .is-of-kind .ensures) ∙ not-false _ (c .before .before .if2 .left)) (rw (c .before .count-of .ensures .0) at (c .if3 .left))
+returns-4 c = λ R. field-tests _ _ _ _ _ (lent (c .before .before .before .before .before .before .before .before .before .args .heap .now) R (c .before .before .before .before .before .before .before .before .before .args .«record»)) (c .before .before .before .before .before .index-of .ensures) (ap not (sym (c .before .before .before .before .before .before .before .names .ensures R)) ∙ c .before .before .before .before .before .before .if1 .left) (ap not (sym (c .before .before .before .is-of-kind .ensures)) ∙ c .before .before .if2 .left) (ap (λ (n : ℕ). leb n (c .before .before .before .before .before .before .before .before .before .args .field)) (sym (c .before .count-of .ensures .0)) ∙ lt-leb _ _ (c .if3 .left))
 
 pub field-of-spec : {M : Type 1} → statement M
 field-of-spec =

@@ -1,9 +1,10 @@
--- `access::objects::names` meets its contract, test by test in the definition's order.
+-- `access::objects::names` meets its contract, by one law of its six tests.
 use borrow.Author.Tests.{eq-eqb, ne-eqb, lt-ltb, le-ltb, le-leb, lt-leb, not-true, not-false}
-use mathlib.Core.Path.{sym, _∙_}
+use Prim.Native.Nat.{ℕ, _+_}
+use mathlib.Core.Path.{refl, sym, ap, _∙_}
+use lib.Dec.{leb}
 use Rattle.model.specs.Words.{lent}
-use Rattle.model.specs.Objects.{names}
-use Rattle.access.proofs.NamedObjects.{names-last}
+use Rattle.access.proofs.NamedObjects.{names-tests}
 use borrow.Author.Needs.{needs}
 use Rattle.access.proofs.objects.names.Statement.{statement}
 use Rattle.access.proofs.objects.names.Tie as tie
@@ -19,12 +20,10 @@ is-address-requires : tie.Need-is-address-requires
 is-address-requires c κs = search needs
 
 returns : tie.Need-returns
-unfolding names
-returns c = λ R. simp (sym (c .before .is-address .ensures) ∙ not-true _ (c .if1 .taken))
+returns c = λ R. names-tests _ (lent (c .before .before .before .args .heap .now) R (c .before .before .before .args .«record»)) _ _ _ refl refl (sym (c .before .is-address .ensures) ∙ not-true _ (c .if1 .taken)) refl refl refl refl refl
 
 returns-2 : tie.Need-returns-2
-unfolding names
-returns-2 c = λ R. simp (sym (c .before .before .is-address .ensures) ∙ not-false _ (c .before .if1 .left), ne-eqb _ _ (c .if2 .taken))
+returns-2 c = λ R. names-tests _ (lent (c .before .before .before .before .args .heap .now) R (c .before .before .before .before .args .«record»)) _ _ _ refl refl (sym (c .before .before .is-address .ensures) ∙ not-false _ (c .before .if1 .left)) (ne-eqb _ _ (c .if2 .taken)) refl refl refl refl
 
 sub-first-of : tie.Need-sub-first-of
 sub-first-of c = search needs
@@ -36,12 +35,10 @@ index-of-requires : tie.Need-index-of-requires
 index-of-requires c κs = search needs
 
 returns-3 : tie.Need-returns-3
-unfolding names
-returns-3 c = λ R. simp (sym (c .before .index-of .ensures), sym (c .before .before .first-of .ensures), sym (c .before .before .before .before .before .is-address .ensures) ∙ not-false _ (c .before .before .before .before .if1 .left), eq-eqb _ _ (c .before .before .before .if2 .left), lt-leb _ _ (c .if3 .taken))
+returns-3 c = λ R. names-tests _ (lent (c .before .before .before .before .before .before .before .args .heap .now) R (c .before .before .before .before .before .before .before .args .«record»)) _ _ _ (c .before .index-of .ensures) (c .before .before .first-of .ensures) (sym (c .before .before .before .before .before .is-address .ensures) ∙ not-false _ (c .before .before .before .before .if1 .left)) (eq-eqb _ _ (c .before .before .before .if2 .left)) (lt-leb _ _ (c .if3 .taken)) refl refl refl
 
 returns-4 : tie.Need-returns-4
-unfolding names
-returns-4 c = λ R. simp (sym (c .before .before .index-of .ensures), sym (c .before .before .before .first-of .ensures), sym (c .before .before .before .before .before .before .is-address .ensures) ∙ not-false _ (c .before .before .before .before .before .if1 .left), eq-eqb _ _ (c .before .before .before .before .if2 .left), le-leb _ _ (c .before .if3 .left), le-ltb _ _ (c .if4 .taken))
+returns-4 c = λ R. names-tests _ (lent (c .before .before .before .before .before .before .before .before .args .heap .now) R (c .before .before .before .before .before .before .before .before .args .«record»)) _ _ _ (c .before .before .index-of .ensures) (c .before .before .before .first-of .ensures) (sym (c .before .before .before .before .before .before .is-address .ensures) ∙ not-false _ (c .before .before .before .before .before .if1 .left)) (eq-eqb _ _ (c .before .before .before .before .if2 .left)) (le-leb _ _ (c .before .if3 .left)) (le-ltb _ _ (c .if4 .taken)) refl refl
 
 mul-header : tie.Need-mul-header
 mul-header c = search needs
@@ -53,8 +50,7 @@ is-header-requires : tie.Need-is-header-requires
 is-header-requires c κs = search needs
 
 returns-5 : tie.Need-returns-5
-unfolding names
-returns-5 c = λ R. simp (sym (c .before .before .before .before .before .index-of .ensures), sym (c .before .before .before .before .before .before .first-of .ensures), sym (c .before .before .before .before .before .before .before .before .before .is-address .ensures) ∙ not-false _ (c .before .before .before .before .before .before .before .before .if1 .left), eq-eqb _ _ (c .before .before .before .before .before .before .before .if2 .left), le-leb _ _ (c .before .before .before .before .if3 .left), lt-ltb _ _ (c .before .before .before .if4 .left), sym (c .before .is-header .ensures) ∙ not-true _ (c .if5 .taken))
+returns-5 c = λ R. names-tests _ (lent (c .before .before .before .before .before .before .before .before .before .before .before .args .heap .now) R (c .before .before .before .before .before .before .before .before .before .before .before .args .«record»)) _ _ _ (c .before .before .before .before .before .index-of .ensures) (c .before .before .before .before .before .before .first-of .ensures) (sym (c .before .before .before .before .before .before .before .before .before .is-address .ensures) ∙ not-false _ (c .before .before .before .before .before .before .before .before .if1 .left)) (eq-eqb _ _ (c .before .before .before .before .before .before .before .if2 .left)) (le-leb _ _ (c .before .before .before .before .if3 .left)) (lt-ltb _ _ (c .before .before .before .if4 .left)) (sym (c .before .is-header .ensures) ∙ not-true _ (c .if5 .taken)) refl
 
 count-of-requires : tie.Need-count-of-requires
 count-of-requires c κs = search needs
@@ -66,7 +62,7 @@ add-result-2 : tie.Need-add-result-2
 add-result-2 c = search needs
 
 returns-6 : tie.Need-returns-6
-returns-6 c = λ R. names-last _ (lent (c .before .before .before .before .before .before .before .before .before .before .before .before .args .heap .now) R (c .before .before .before .before .before .before .before .before .before .before .before .before .args .«record»)) _ _ _ _ (c .before .before .before .before .before .before .index-of .ensures) (c .before .before .before .before .before .before .before .first-of .ensures) (c .count-of .ensures .0) (sym (c .before .before .before .before .before .before .before .before .before .before .is-address .ensures) ∙ not-false _ (c .before .before .before .before .before .before .before .before .before .if1 .left)) (c .before .before .before .before .before .before .before .before .if2 .left) (c .before .before .before .before .before .if3 .left) (c .before .before .before .before .if4 .left) (sym (c .before .before .is-header .ensures) ∙ not-false _ (c .before .if5 .left))
+returns-6 c = λ R. names-tests _ (lent (c .before .before .before .before .before .before .before .before .before .before .before .before .args .heap .now) R (c .before .before .before .before .before .before .before .before .before .before .before .before .args .«record»)) _ _ _ (c .before .before .before .before .before .before .index-of .ensures) (c .before .before .before .before .before .before .before .first-of .ensures) (sym (c .before .before .before .before .before .before .before .before .before .before .is-address .ensures) ∙ not-false _ (c .before .before .before .before .before .before .before .before .before .if1 .left)) (eq-eqb _ _ (c .before .before .before .before .before .before .before .before .if2 .left)) (le-leb _ _ (c .before .before .before .before .before .if3 .left)) (lt-ltb _ _ (c .before .before .before .before .if4 .left)) (sym (c .before .before .is-header .ensures) ∙ not-false _ (c .before .if5 .left)) (ap (λ (n : ℕ). leb (c .before .before .before .before .before .before .index-of .result .0 + (n + 1)) (c .before .before .before .before .before .before .before .before .before .before .before .before .args .«record» .free .0)) (sym (c .count-of .ensures .0)))
 
 pub names-spec : {M : Type 1} → statement M
 names-spec =

@@ -1,6 +1,8 @@
 -- `access::roots::set_null` meets its contract, test by test.
 use borrow.Author.Tests.{le-leb, lt-leb}
+use native.Mathlib.Omega.{arith}
 use mathlib.Core.Path.{refl, sym, _∙_}
+use lib.ListN.{length}
 use Rattle.model.specs.Calls.{setNull}
 use Rattle.access.proofs.Refusing.{said, applies, passes}
 use borrow.Author.Needs.{needs}
@@ -26,7 +28,7 @@ say-requires-2 c κs = search needs
 
 returns-2 : tie.Need-returns-2
 unfolding setNull
-returns-2 c = said _ _ (c .say2 .ensures) (passes _ _ (sym (c .before .before .before .bad-shape .ensures) ∙ c .before .before .if1 .left) (applies _ (le-leb _ _ (c .before .if2 .taken))))
+returns-2 c = said _ _ (c .say2 .ensures) (passes _ _ (sym (c .before .before .before .bad-shape .ensures) ∙ c .before .before .if1 .left) (applies _ (le-leb (length (c .before .before .before .before .before .before .args .roots .now)) (c .before .before .before .before .before .before .args .to) (omega arith))))
 
 mul-roots : tie.Need-mul-roots
 mul-roots c = search needs
