@@ -1,0 +1,67 @@
+// Builds P5 of document 01 by calls, collects it, and prints what is left.
+use access::fields::store;
+use access::fresh::fresh;
+use access::set_integer::set_integer;
+use model::Answer;
+use model::Half;
+use model::Index;
+use model::Kind;
+use model::Record;
+use session::allocate::allocate;
+use session::collect::collect;
+
+// A traced object of `fields` fields in root `to`, with the integer `value` in one of them, by way of root `by`.
+fn build_one(
+    heap: &mut [u32],
+    roots: &mut [u32],
+    record: Record,
+    to: usize,
+    fields: usize,
+    field: usize,
+    by: usize,
+    value: i64,
+) -> Record {
+    let made = allocate(heap, roots, record, Kind::Traced, fields, to).record;
+    let set = set_integer(heap, roots, made, by, value).record;
+    store(heap, roots, set, to, field, by).record
+}
+
+// In a cleared heap, an object that holds 0, and one of two fields that holds 10 in its last.
+fn build_two(heap: &mut [u32], roots: &mut [u32]) -> Record {
+    let any = Record {
+        half: Half::A,
+        free: Index(1),
+    };
+    let start = fresh(heap, roots, any).record;
+    let one = build_one(heap, roots, start, 0, 1, 0, 1, 0);
+    build_one(heap, roots, one, 1, 2, 1, 0, 10)
+}
+
+// P5: the second object names itself; an object with no fields takes the first one's root, so that nothing names it.
+fn build(heap: &mut [u32], roots: &mut [u32]) -> Record {
+    let two = build_two(heap, roots);
+    let knot = store(heap, roots, two, 1, 0, 1).record;
+    allocate(heap, roots, knot, Kind::Traced, 0, 0).record
+}
+
+// The live words of an answer to collect.
+fn live_of(answer: Answer) -> u32 {
+    match answer {
+        Answer::Live(live) => live,
+        _ => 0,
+    }
+}
+
+fn main() {
+    let mut words = [0u32; 17];
+    let mut table = [0u32; 2];
+    let heap: &mut [u32] = &mut words;
+    let roots: &mut [u32] = &mut table;
+    let start = build(heap, roots);
+    let done = collect(heap, roots, start);
+    let answer = done.answer;
+    let after = done.record;
+    show::collected(after, live_of(answer));
+    show::words(heap, 9, after.free.0);
+    show::roots(roots);
+}
