@@ -9,6 +9,7 @@ use Rattle.model.specs.declared.Refusal.the-variants as Why
 use Rattle.model.specs.declared.Answer.{Answer}
 use Rattle.model.specs.declared.Answer.the-variants as Says
 use Rattle.model.specs.declared.Answered.{Answered}
+use Rattle.model.specs.declared.Told.{Told}
 use Rattle.model.specs.Words.{State, lent}
 
 -- a call's answer, and what it leaves of what it was lent
@@ -39,13 +40,7 @@ number Why.Field = 7
 number Why.Damaged = 8
 number Why.Room = 9
 
--- an answer in numbers: that of its refusal, 0 for none; for inspect what the root holds, 0 null, 1 an integer, 2 a traced
--- object, 3 an untraced one; and its value: L, an integer, a field count, a raw word, or 1 for sound and yes
-pub record Told : Type 0 where
-  pub refusal : ℕ
-  pub holds : ℕ
-  pub value : ℤ
-
+-- an answer in numbers
 abbrev pub tells : ℕ → ℕ → ℤ → Told
 tells k h v = record { refusal = k; holds = h; value = v }
 

@@ -19,7 +19,8 @@ use Rattle.model.specs.Objects.{names}
 use Rattle.model.specs.Discovery.{mem, visit, visits, packed, wordsBefore, found}
 use Rattle.model.specs.Soundness.{tiles, headersFrom, isValue, fieldsAreValues, sound}
 use Rattle.model.specs.Collection.{cells, wordLeads, cellLeads, orderAt, live, rename, copied}
-use Rattle.model.specs.Answers.{refuse, Told, tells, told}
+use Rattle.model.specs.declared.Told.{Told}
+use Rattle.model.specs.Answers.{refuse, tells, told}
 use Rattle.model.specs.Changes.{placed}
 use Rattle.model.specs.Calls.{check, collect, allocate, setInteger, setNull, copy, load, store, rawRead, rawWrite, same, inspect}
 use Rattle.model.specs.Sessions.{step, machine, answers, after}

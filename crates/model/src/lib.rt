@@ -76,6 +76,16 @@ pub struct Answered {
     pub record: Record,
 }
 
+// An answer in document 01's numbers.
+pub struct Told {
+    // The refusal's number, 0 for none.
+    pub refusal: u32,
+    // What the root of an inspect holds: 0 null, 1 an integer, 2 a traced object, 3 an untraced one.
+    pub holds: u32,
+    // Live words, an integer, a field count, a raw word, or 1 for sound and for yes.
+    pub value: i64,
+}
+
 // A session call. Roots are named by number.
 pub enum Call {
     Collect,

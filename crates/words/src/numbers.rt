@@ -1,0 +1,72 @@
+// Answers in document 01's numbers, for hosts that count refusals and not names.
+ghost use mathlib.Core.Path.{_≡_};
+ghost use lib.IntN.{pos};
+ghost use Rattle.model.specs.declared.Answer.the-variants as Says;
+ghost use Rattle.model.specs.Answers as Answers;
+use model::Answer;
+use model::Kind;
+use model::Refusal;
+use model::Told;
+
+pub fn number(refusal: Refusal) -> u32
+    ensures { λ r. ⌜ r ≡ Answers.number refusal ⌝ }
+{
+    match refusal {
+        Refusal::Shape => 1,
+        Refusal::Root => 2,
+        Refusal::Count => 3,
+        Refusal::Range => 4,
+        Refusal::Object => 5,
+        Refusal::Kind => 6,
+        Refusal::Field => 7,
+        Refusal::Damaged => 8,
+        Refusal::Room => 9,
+    }
+}
+
+fn tells(refusal: u32, holds: u32, value: u32) -> Told
+    ensures { λ r. ⌜ r ≡ Answers.tells refusal holds (pos value) ⌝ }
+{
+    Told {
+        refusal: refusal,
+        holds: holds,
+        value: value as i64,
+    }
+}
+
+fn integer(value: i32) -> Told
+    ensures { λ r. ⌜ r ≡ Answers.told (Says.Integer value) ⌝ }
+{
+    Told {
+        refusal: 0,
+        holds: 1,
+        value: value as i64,
+    }
+}
+
+fn object(kind: Kind, fields: u32) -> Told
+    ensures { λ r. ⌜ r ≡ Answers.told (Says.Object kind fields) ⌝ }
+{
+    match kind {
+        Kind::Traced => tells(0, 2, fields),
+        Kind::Untraced => tells(0, 3, fields),
+    }
+}
+
+pub fn told(answer: Answer) -> Told
+    ensures { λ r. ⌜ r ≡ Answers.told answer ⌝ }
+{
+    match answer {
+        Answer::Done => tells(0, 0, 0),
+        Answer::Live(live) => tells(0, 0, live),
+        Answer::Sound => tells(0, 0, 1),
+        Answer::Unsound => tells(0, 0, 0),
+        Answer::Yes => tells(0, 0, 1),
+        Answer::No => tells(0, 0, 0),
+        Answer::Null => tells(0, 0, 0),
+        Answer::Integer(value) => integer(value),
+        Answer::Object(kind, fields) => object(kind, fields),
+        Answer::Number(number) => tells(0, 0, number),
+        Answer::Refused(refusal) => tells(number(refusal), 0, 0),
+    }
+}
