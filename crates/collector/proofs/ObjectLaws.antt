@@ -15,52 +15,48 @@ use Rattle.collector.proofs.PassingLaws.{passed-header, passed-raw, pas
 use Rattle.collector.proofs.RunLaws.{run-done, run-step, safe-room, turn-may, turn-run, turn-safe, run-at, run-cut, safe-first, safe-rest, run-length}
 
 module _ (Y : Layout) where
-  -- ---- field i of n, those before it passed
+  -- ---- the field at i, those from e on no fields
 
-  module _ (h : List ℕ) (first n i f : ℕ) (more : i < n) (may : first + n ≤ f) (safe : SafeRun Y (n - i) h (scan (first + i) (n - i) 0 f)) where
+  module _ (h : List ℕ) (i e f : ℕ) (more : i < e) (whole : e ≤ f) (safe : SafeRun Y (e - i) h (scan i (e - i) 0 f)) where
     abbrev here : Scan
-    here = scan (first + i) (n - i) 0 f
+    here = scan i (e - i) 0 f
 
-    before : first + i < f
+    before : i < f
     before = omega arith
 
-    some-left : n - i ≡ suc (n - (i + 1))
+    some-left : e - i ≡ suc (e - (i + 1))
     some-left = omega arith
 
-    values-left : n - i ≡ 0 → ⊥
+    values-left : e - i ≡ 0 → ⊥
     values-left z = omega arith
 
-    pub field-may : MayPassField Y h (first + i) f
+    pub field-may : MayPassField Y h i f
     field-may = record {
-      within = omega (arith, safe-room Y (n - i) h here safe);
-      moves = turn-may Y h here before (n - i) (n - (i + 1)) some-left safe .moves values-left;
+      within = omega (arith, safe-room Y (e - i) h here safe);
+      moves = turn-may Y h here before (e - i) (e - (i + 1)) some-left safe .moves values-left;
     }
 
-    module _ (h′ : List ℕ) (f′ : ℕ) (e : freed h′ f′ ≡ fieldPassed Y h (first + i) f) where
-      step-is : after h′ (scan (first + (i + 1)) (n - (i + 1)) 0 f′) ≡ passed Y h here
+    module _ (h′ : List ℕ) (f′ : ℕ) (q : freed h′ f′ ≡ fieldPassed Y h i f) where
+      step-is : after h′ (scan (i + 1) (e - (i + 1)) 0 f′) ≡ passed Y h here
       step-is =
-          let a : first + (i + 1) ≡ first + i + 1 = omega arith in
-          let b : n - (i + 1) ≡ n - i - 1 = omega arith in
-          ap (λ (x : ℕ). after h′ (scan x (n - (i + 1)) 0 f′)) a
-          ∙ ap (λ (x : ℕ). after h′ (scan (first + i + 1) x 0 f′)) b
-          ∙ ap (onward here (n - i - 1) 0) e
-          ∙ sym (passed-value Y h here values-left)
+          let less : e - (i + 1) ≡ e - i - 1 = omega arith in
+          ap (λ (x : ℕ). after h′ (scan (i + 1) x 0 f′)) less ∙ ap (onward here (e - i - 1) 0) q ∙ sym (passed-value Y h here values-left)
 
-      pub field-keeps : Keeps Y h here (after h′ (scan (first + (i + 1)) (n - (i + 1)) 0 f′))
+      pub field-keeps : Keeps Y h here (after h′ (scan (i + 1) (e - (i + 1)) 0 f′))
       field-keeps = subst (Keeps Y h here) (sym step-is) (passed-keeps Y h here)
 
-      pub field-run : run Y (n - (i + 1)) h′ (scan (first + (i + 1)) (n - (i + 1)) 0 f′) ≡ run Y (n - i) h here
-      field-run = turn-run Y h here before (n - i) (n - (i + 1)) some-left (after h′ (scan (first + (i + 1)) (n - (i + 1)) 0 f′)) step-is
+      pub field-run : run Y (e - (i + 1)) h′ (scan (i + 1) (e - (i + 1)) 0 f′) ≡ run Y (e - i) h here
+      field-run = turn-run Y h here before (e - i) (e - (i + 1)) some-left (after h′ (scan (i + 1) (e - (i + 1)) 0 f′)) step-is
 
-      pub field-safe : SafeRun Y (n - (i + 1)) h′ (scan (first + (i + 1)) (n - (i + 1)) 0 f′)
-      field-safe = turn-safe Y h here before (n - i) (n - (i + 1)) some-left (after h′ (scan (first + (i + 1)) (n - (i + 1)) 0 f′)) step-is safe
+      pub field-safe : SafeRun Y (e - (i + 1)) h′ (scan (i + 1) (e - (i + 1)) 0 f′)
+      field-safe = turn-safe Y h here before (e - i) (e - (i + 1)) some-left (after h′ (scan (i + 1) (e - (i + 1)) 0 f′)) step-is safe
 
   -- no field left
-  pub fields-done : (h : List ℕ) (first n i f : ℕ) → i ≡ n → run Y (n - i) h (scan (first + i) (n - i) 0 f) ≡ after h (between (first + n) f)
+  pub fields-done : (h : List ℕ) (i e f : ℕ) → i ≡ e → run Y (e - i) h (scan i (e - i) 0 f) ≡ after h (between e f)
   unfolding run
-  fields-done h first n i f e =
-      let z : n - i ≡ 0 = omega arith in
-      rw (z, e)
+  fields-done h i e f q =
+      let none : e - i ≡ 0 = omega arith in
+      rw (none, q)
 
   -- ---- raw words
 

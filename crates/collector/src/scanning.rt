@@ -38,13 +38,12 @@ fn pass_fields(heap: &mut [u32], first: Index, n: usize, free: Index) -> Index
     requires { ⌜ MayPassFields tuple (now heap) (first .0) n (free .0) ⌝ }
     ensures { λ r. ⌜ after (now (heap .exit)) (between (first .0 + n) (r .0)) ≡ run tuple n (now (heap .entry)) (scan (first .0) n 0 (free .0)) ⌝ }
 {
-    let from = first.0;
     let mut free = free;
-    let mut i: usize = 0;
-    while i < n {
-        let at = from + i;
+    let mut at = first.0;
+    let end = at + n;
+    while at < end {
         free = pass_field(heap, Index(at), free);
-        i += 1;
+        at += 1;
     }
     free
 }
