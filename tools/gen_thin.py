@@ -188,8 +188,8 @@ class Slice:
 
 
 class Pattern:
-    """Locals: 0 the answer, the slices, the record's reference, the further parameters, what the callee returns, for each `&mut` slice
-    its pointer and the slice lent again, and the record's copy."""
+    """The lemma of one pattern. Locals: 0 the answer, the slices, the record's reference, the further parameters, what the
+    callee returns, for each `&mut` slice its pointer and the slice lent again, and the record's copy."""
 
     def __init__(self, slices, further):
         self.slices = [Slice(number, *s) for number, s in enumerate(slices)]
