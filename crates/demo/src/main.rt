@@ -1,5 +1,4 @@
 // Builds P5 of document 01 by calls, collects it, and prints what is left.
-use access::fields::store;
 use access::fresh::fresh;
 use access::set_integer::set_integer;
 use model::Answer;
@@ -7,6 +6,7 @@ use model::Half;
 use model::Index;
 use model::Kind;
 use model::Record;
+use objects::fields::store;
 use session::allocate::allocate;
 use session::collect::collect;
 

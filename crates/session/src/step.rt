@@ -26,7 +26,7 @@ pub fn step(heap: &mut [u32], roots: &mut [u32], record: Record, call: Call) -> 
         ),
         Call::SetNull { to } => access::roots::set_null(heap, roots, record, to),
         Call::Copy { from, to } => access::roots::copy(heap, roots, record, from, to),
-        Call::Load { object, field, to } => access::fields::load(
+        Call::Load { object, field, to } => objects::fields::load(
             heap,
             roots,
             record,
@@ -38,8 +38,8 @@ pub fn step(heap: &mut [u32], roots: &mut [u32], record: Record, call: Call) -> 
             object,
             field,
             from,
-        } => access::fields::store(heap, roots, record, object, field, from),
-        Call::RawRead { object, field } => access::fields::raw_read(
+        } => objects::fields::store(heap, roots, record, object, field, from),
+        Call::RawRead { object, field } => objects::fields::raw_read(
             heap,
             roots,
             record,
@@ -50,8 +50,8 @@ pub fn step(heap: &mut [u32], roots: &mut [u32], record: Record, call: Call) -> 
             object,
             field,
             number,
-        } => access::fields::raw_write(heap, roots, record, object, field, number),
+        } => objects::fields::raw_write(heap, roots, record, object, field, number),
         Call::Same { one, other } => access::roots::same(heap, roots, record, one, other),
-        Call::Inspect { root } => access::inspect::inspect(heap, roots, record, root),
+        Call::Inspect { root } => objects::inspect::inspect(heap, roots, record, root),
     }
 }

@@ -7,11 +7,11 @@ use Rattle.session.proofs.step.step.Statement.{statement}
 use Rattle.session.proofs.step.step.Tie as tie
 use Rattle.session.proofs.step.step.Reads as reads
 use Rattle.session.proofs.step.step.Lts as lts
-use Rattle.access.proofs.fields.load.Reads as load-reads
-use Rattle.access.proofs.fields.raw_read.Reads as raw-read-reads
-use Rattle.access.proofs.fields.raw_write.Reads as raw-write-reads
-use Rattle.access.proofs.fields.store.Reads as store-reads
-use Rattle.access.proofs.inspect.inspect.Reads as inspect-reads
+use Rattle.objects.proofs.fields.load.Reads as load-reads
+use Rattle.objects.proofs.fields.raw_read.Reads as raw-read-reads
+use Rattle.objects.proofs.fields.raw_write.Reads as raw-write-reads
+use Rattle.objects.proofs.fields.store.Reads as store-reads
+use Rattle.objects.proofs.inspect.inspect.Reads as inspect-reads
 use Rattle.access.proofs.roots.copy.Reads as copy-reads
 use Rattle.access.proofs.roots.same.Reads as same-reads
 use Rattle.access.proofs.set_integer.set_integer.Reads as set-integer-reads

@@ -1,0 +1,3 @@
+pub mod NamedObjects
+pub mod Inspecting
+pub mod ReachedFields

@@ -1,0 +1,45 @@
+-- An object that a word names lies in the heap: what SHAPE and the test of the name say of its words. Assumes nothing.
+use Prim.Native.Nat.{ℕ, _+_, _≤_, _<_, _%_}
+use native.Mathlib.Omega.{arith}
+use mathlib.Core.Path.{_≡_, sym}
+use mathlib.Core.Bool.{Bool, true, false, _&&_}
+use mathlib.Core.List.{List}
+use lib.Dec.{ltb, leb, eqb}
+use lib.ListN.{length}
+use borrow.Author.Tests.{leb-true}
+use Rattle.model.specs.declared.Record.{Record}
+use Rattle.model.specs.Words.{State, at, lent, firstWord, free}
+use Rattle.model.specs.Values.{isAddress}
+use Rattle.model.specs.Headers.{Layout}
+use Rattle.model.specs.Objects.{index, size, names}
+use Rattle.model.specs.Shape.{badShape}
+use Rattle.model.proofs.Tests.{and-both}
+use Rattle.model.proofs.Shape.{shaped, first-in}
+use Rattle.objects.specs.Leaves.{FreeInHeap}
+
+pub free-in-heap : (s : State) → badShape s ≡ false → FreeInHeap (s .heap) (s .«record»)
+free-in-heap s h =
+    let g = shaped s h in
+    let f = first-in s g in
+    record { least = omega arith; within = omega arith; most = omega arith }
+
+module _ (Y : Layout) where
+  -- the name by its six tests, whatever each comes to, at the index and the half's first word as the code has them
+  pub names-tests : {a b c d h l : Bool} (s : State) (w i first : ℕ) → i ≡ index Y w → first ≡ firstWord s
+      → isAddress w ≡ a → eqb (w % 4) 0 ≡ b → leb first i ≡ c → ltb i (free s) ≡ d → Y .isHeader (at (s .heap) i) ≡ h
+      → leb (i + size Y (s .heap) i) (free s) ≡ l → (a && b && c && d && h && l) ≡ names Y s w
+  unfolding names
+  names-tests s w i first e f pa pb pc pd ph pl = simp (sym e, sym f, pa, pb, pc, pd, ph, pl)
+
+  pub named-ends : (s : State) (w : ℕ) → names Y s w ≡ true → index Y w + size Y (s .heap) (index Y w) ≤ free s
+  unfolding names
+  named-ends s w h =
+      leb-true _ _
+      (and-both (isAddress w && eqb (w % 4) 0 && leb (firstWord s) (index Y w) && ltb (index Y w) (free s) && Y .isHeader (at (s .heap) (index Y w))) _ h .1)
+
+  pub header-in : (H R : List ℕ) (q : Record) (w : ℕ) → FreeInHeap H q → names Y (lent H R q) w ≡ true → index Y w < length H
+  header-in H R q w g h = omega (arith, named-ends (lent H R q) w h)
+
+  -- the same where SHAPE was tested, of the index as the code has it
+  pub header-below : (s : State) (w i : ℕ) → i ≡ index Y w → badShape s ≡ false → names Y s w ≡ true → i < length (s .heap)
+  header-below s w i e h n = rw e (header-in (s .heap) (s .roots) (s .«record») w (free-in-heap s h) n)

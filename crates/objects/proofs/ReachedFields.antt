@@ -1,0 +1,119 @@
+-- The calls on one field, by the field that they reach or are refused. Assumes nothing.
+use Prim.Native.Nat.{ℕ, _<_}
+use native.Mathlib.Omega.{arith}
+use mathlib.Core.Path.{_≡_, refl, sym, ap, _∙_}
+use mathlib.Core.Bool.{Bool, true, false, not, cond, _||_, or-self}
+use lib.Dec.{leb}
+use lib.ListN.{length}
+use borrow.Author.Tests.{leb-false, not-false}
+use Rattle.model.specs.declared.Index.{Index}
+use Rattle.model.specs.declared.Kind.{Kind}
+use Rattle.model.specs.declared.Kind.the-variants.{Traced, Untraced}
+use Rattle.model.specs.declared.Refusal.{Refusal}
+use Rattle.model.specs.declared.Refusal.the-variants as Why
+use Rattle.model.specs.declared.Answer.the-variants as Says
+use Rattle.model.specs.Words.{State, at}
+use Rattle.model.specs.Headers.{Layout}
+use Rattle.model.specs.Objects.{index, kind, fieldCount, fieldIndex, names}
+use Rattle.model.specs.Shape.{badShape}
+use Rattle.model.specs.Answers.{Outcome, says, refuse}
+use Rattle.model.specs.Changes.{noRoot, rootWord, withRoot, withWord}
+use Rattle.model.specs.Calls.{isOfKind, onField, load, store, rawRead, rawWrite}
+use Rattle.objects.specs.declared.naming.Field.{Field}
+use Rattle.objects.specs.declared.naming.Field.the-variants.{At, Refused}
+use Rattle.objects.specs.Leaves.{fieldOf, reached}
+use Rattle.objects.proofs.NamedObjects.{free-in-heap, named-ends}
+use Rattle.access.proofs.RootNumbers.{both-below}
+
+-- what a call comes to that does `next` with the index of its field
+unfoldable pub answered : Field → State → (ℕ → Outcome) → Outcome
+answered (At i) s next = next (i .0)
+answered (Refused k) s next = says (Says.Refused k) s
+
+-- such a call, where the field is known, or the refusal
+pub by-field : {o : Outcome} {x : Field} {i : Index} (s : State) (next : ℕ → Outcome) → o ≡ answered x s next → x ≡ At i → next (i .0) ≡ o
+unfolding answered
+by-field s next e f = sym (e ∙ ap (λ (x : Field). answered x s next) f)
+
+pub by-refusal : {o : Outcome} {x : Field} {k : Refusal} (s : State) (next : ℕ → Outcome) → o ≡ answered x s next → x ≡ Refused k → says (Says.Refused k) s ≡ o
+unfolding answered
+by-refusal s next e f = sym (e ∙ ap (λ (x : Field). answered x s next) f)
+
+answered-refuse : (b : Bool) (k : Refusal) (x : Field) (s : State) (next : ℕ → Outcome)
+    → answered (cond b (Refused k) x) s next ≡ refuse b k s (answered x s next)
+unfolding answered refuse
+answered-refuse true k x s next = refl
+answered-refuse false k x s next = refl
+
+-- a chain that reaches a field passed its first test
+passed : (b : Bool) (k : Refusal) (x : Field) (i : Index) → cond b (Refused k) x ≡ At i → (b ≡ false) × (x ≡ At i)
+passed true k x i e = absurd (let z : _≡_ {A = ℕ} 0 1 = cc in omega arith)
+passed false k x i e = (refl, e)
+
+-- a field that is reached lies in the heap, and both roots that were named are there
+pub record Reaches (s : State) (r q : ℕ) (i : Index) : Type 0 where
+  pub field : i .0 < length (s .heap)
+  pub object : r < length (s .roots)
+  pub other : q < length (s .roots)
+
+module _ (Y : Layout) where
+  -- the field by its three tests, whatever each comes to, at the header's index as the code has it
+  pub field-tests : {a b c : Bool} (k : Kind) (w f i : ℕ) (s : State) → i ≡ index Y w
+      → not (names Y s w) ≡ a → not (isOfKind k (kind Y (s .heap) i)) ≡ b → leb (fieldCount Y (s .heap) i) f ≡ c
+      → cond a (Refused Why.Object) (cond b (Refused Why.Kind) (cond c (Refused Why.Field) (At (record { 0 = fieldIndex i f })))) ≡ fieldOf Y k w f s
+  unfolding fieldOf
+  field-tests k w f i s e pa pb pc = simp (sym e, pa, pb, pc)
+
+  on-reached : (k : Kind) (r f q : ℕ) (s : State) (next : ℕ → Outcome)
+      → refuse (badShape s) Why.Shape s
+      (refuse (noRoot s r || noRoot s q) Why.Root s
+      (onField Y k (rootWord s r) f s (next (fieldIndex (index Y (rootWord s r)) f))))
+      ≡ answered (reached Y k r f q s) s next
+  unfolding answered fieldOf reached
+  on-reached k r f q s next = sym (simp answered-refuse)
+
+  -- a call that names one root only
+  on-reached-once : (k : Kind) (r f : ℕ) (s : State) (next : ℕ → Outcome)
+      → refuse (badShape s) Why.Shape s
+      (refuse (noRoot s r) Why.Root s
+      (onField Y k (rootWord s r) f s (next (fieldIndex (index Y (rootWord s r)) f))))
+      ≡ answered (reached Y k r f r s) s next
+  on-reached-once k r f s next =
+      ap (λ (b : Bool). refuse (badShape s) Why.Shape s (refuse b Why.Root s (onField Y k (rootWord s r) f s (next (fieldIndex (index Y (rootWord s r)) f))))) (sym (or-self (noRoot s r)))
+      ∙ on-reached k r f r s next
+
+  pub load-reached : (r f to : ℕ) (s : State)
+      → load Y r f to s ≡ answered (reached Y Traced r f to s) s (λ i. says Says.Done (withRoot s to (at (s .heap) i)))
+  unfolding load
+  load-reached r f to s = on-reached Traced r f to s (λ i. says Says.Done (withRoot s to (at (s .heap) i)))
+
+  pub store-reached : (r f from : ℕ) (s : State)
+      → store Y r f from s ≡ answered (reached Y Traced r f from s) s (λ i. says Says.Done (withWord s i (rootWord s from)))
+  unfolding store
+  store-reached r f from s = on-reached Traced r f from s (λ i. says Says.Done (withWord s i (rootWord s from)))
+
+  pub raw-read-reached : (r f : ℕ) (s : State)
+      → rawRead Y r f s ≡ answered (reached Y Untraced r f r s) s (λ i. says (Says.Number (at (s .heap) i)) s)
+  unfolding rawRead
+  raw-read-reached r f s = on-reached-once Untraced r f s (λ i. says (Says.Number (at (s .heap) i)) s)
+
+  pub raw-write-reached : (r f x : ℕ) (s : State)
+      → rawWrite Y r f x s ≡ answered (reached Y Untraced r f r s) s (λ i. says Says.Done (withWord s i x))
+  unfolding rawWrite
+  raw-write-reached r f x s = on-reached-once Untraced r f s (λ i. says Says.Done (withWord s i x))
+
+  pub reaches : (k : Kind) (r f q : ℕ) (s : State) (i : Index) → reached Y k r f q s ≡ At i → Reaches s r q i
+  unfolding fieldOf reached
+  reaches k r f q s i e =
+      let w = rootWord s r in
+      let shape = passed (badShape s) Why.Shape _ i e in
+      let roots = passed (noRoot s r || noRoot s q) Why.Root _ i (shape .1) in
+      let object = passed (not (names Y s w)) Why.Object _ i (roots .1) in
+      let kinds = passed (not (isOfKind k (kind Y (s .heap) (index Y w)))) Why.Kind _ i (object .1) in
+      let fields = passed (leb (fieldCount Y (s .heap) (index Y w)) f) Why.Field _ i (kinds .1) in
+      let is : fieldIndex (index Y w) f ≡ i .0 = cc (fields .1) in
+      let below = both-below (length (s .roots)) r q (roots .0) in
+      let free = free-in-heap s (shape .0) in
+      let ends = named-ends Y s w (not-false _ (object .0)) in
+      let less = leb-false (fieldCount Y (s .heap) (index Y w)) f (fields .0) in
+      record { field = omega arith; object = below .0; other = below .1 }
