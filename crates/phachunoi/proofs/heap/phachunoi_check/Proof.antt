@@ -19,12 +19,6 @@ record-of-requires c κs = search needs
 check-requires : tie.Need-check-requires
 check-requires c κs = search needs
 
-result-requires : tie.Need-result-requires
-unfolding step
-result-requires c κs =
-    let a = c .before .before .before .before .before .before .before .args in
-    narrow (a .«record») (a .heap .now) (a .roots .now) Ask.Check (c .before .before .before .record-of .ensures) (c .before .before .check .ensures) (omega arith)
-
 same-length : tie.Need-same-length
 same-length c = search needs
 
@@ -33,6 +27,12 @@ unfolding step
 returns c =
     let a = c .before .before .before .before .before .before .before .before .args in
     crosses result (a .«record») (a .heap .now) (a .roots .now) Ask.Check (c .before .before .before .before .record-of .ensures) (c .before .before .before .check .ensures) (c .result .ensures)
+
+result-requires : tie.Need-result-requires
+unfolding step
+result-requires c κs =
+    let a = c .before .before .before .before .before .before .before .args in
+    narrow (a .«record») (a .heap .now) (a .roots .now) Ask.Check (c .before .before .before .record-of .ensures) (c .before .before .check .ensures) (omega arith)
 
 pub phachunoi-check-spec : {M : Type 1} → statement M
 phachunoi-check-spec =

@@ -19,12 +19,6 @@ record-of-requires c κs = search needs
 collect-requires : tie.Need-collect-requires
 collect-requires c κs = search needs
 
-collected-requires : tie.Need-collected-requires
-unfolding step
-collected-requires c κs =
-    let a = c .before .before .before .before .before .before .before .before .before .before .args in
-    narrow (a .«record») (a .heap .now) (a .roots .now) Ask.Collect (c .before .before .before .before .before .record-of .ensures) (c .before .before .before .before .collect .ensures) (omega arith)
-
 same-length : tie.Need-same-length
 same-length c = search needs
 
@@ -36,6 +30,12 @@ unfolding step
 returns c =
     let a = c .before .before .before .before .before .before .before .before .before .before .before .args in
     crosses collected (a .«record») (a .heap .now) (a .roots .now) Ask.Collect (c .before .before .before .before .before .before .record-of .ensures) (c .before .before .before .before .before .collect .ensures) (c .collected .ensures)
+
+collected-requires : tie.Need-collected-requires
+unfolding step
+collected-requires c κs =
+    let a = c .before .before .before .before .before .before .before .before .before .before .args in
+    narrow (a .«record») (a .heap .now) (a .roots .now) Ask.Collect (c .before .before .before .before .before .record-of .ensures) (c .before .before .before .before .collect .ensures) (omega arith)
 
 pub phachunoi-collect-spec : {M : Type 1} → statement M
 phachunoi-collect-spec =

@@ -1,6 +1,6 @@
 -- `phachunoi::numbers::fresh_result` meets its contract, by whether fresh refused.
 use mathlib.Core.Path.{sym}
-use borrow.Author.Tests.{ne-eqb}
+use borrow.Author.Tests.{eq-eqb, ne-eqb}
 use borrow.Author.Needs.{needs}
 use Rattle.phachunoi.proofs.numbers.fresh_result.Statement.{statement}
 use Rattle.phachunoi.proofs.numbers.fresh_result.Tie as tie
@@ -16,7 +16,7 @@ numbers-of-requires : tie.Need-numbers-of-requires
 numbers-of-requires c κs = search needs
 
 returns : tie.Need-returns
-returns c = rw (sym (c .before .before .before .told .ensures), c .before .if1 .taken, sym (c .numbers-of .ensures))
+returns c = rw (sym (c .before .before .before .told .ensures), eq-eqb (c .before .before .before .told .result .refusal) 0 (c .before .if1 .taken), sym (c .numbers-of .ensures))
 
 returns-2 : tie.Need-returns-2
 returns-2 c = rw (sym (c .before .before .told .ensures), ne-eqb _ 0 (c .if1 .left))

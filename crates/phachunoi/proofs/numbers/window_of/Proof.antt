@@ -1,6 +1,7 @@
 -- `phachunoi::numbers::window_of` meets its contract: an object's place, or a refusal.
 use Prim.Native.Nat.{_+_}
-use mathlib.Core.Path.{sym}
+use native.Mathlib.Omega.{arith}
+use mathlib.Core.Path.{ap}
 use Rattle.phachunoi.specs.Crossing.{Narrow}
 use borrow.Author.Needs.{needs}
 use Rattle.phachunoi.proofs.numbers.window_of.Statement.{statement}
@@ -16,10 +17,10 @@ enum-known-place : tie.Need-enum-known-place
 enum-known-place c = search needs
 
 add-t6 : tie.Need-add-t6
-add-t6 c = let l = below c in search needs
+add-t6 c = record { fits = omega (arith, below c) }
 
 cast-t7 : tie.Need-cast-t7
-cast-t7 c = let l = below c in search needs
+cast-t7 c = record { fits = omega (arith, below c) }
 
 enum-known-place-2 : tie.Need-enum-known-place-2
 enum-known-place-2 c = search needs
@@ -31,7 +32,7 @@ returns : tie.Need-returns
 returns c = rw (c .before .before .place .given .1)
 
 returns-2 : tie.Need-returns-2
-returns-2 c = rw (c .before .before .place2 .given .1, sym (c .number .ensures))
+returns-2 c = rw (c .before .before .place2 .given .1) (ap (λ k. record { refusal = k; first = 0; count = 0 }) (c .number .ensures))
 
 pub window-of-spec : {M : Type 1} → statement M
 window-of-spec =

@@ -21,14 +21,6 @@ record-of-requires c κs = search needs
 set-integer-requires : tie.Need-set-integer-requires
 set-integer-requires c κs = search needs
 
-result-requires : tie.Need-result-requires
-unfolding step
-result-requires c κs =
-    let s = c .before .before .before .before .before .before .before in
-    let a = s .args in
-    let v = toZ-ofZ w64 (a .value) (s .fits .value) in
-    narrow (a .«record») (a .heap .now) (a .roots .now) (Ask.SetInteger (a .to) (a .value)) (c .before .before .before .record-of .ensures) (rw v at (c .before .before .set-integer .ensures)) (omega arith)
-
 same-length : tie.Need-same-length
 same-length c = search needs
 
@@ -39,6 +31,14 @@ returns c =
     let a = s .args in
     let v = toZ-ofZ w64 (a .value) (s .fits .value) in
     crosses result (a .«record») (a .heap .now) (a .roots .now) (Ask.SetInteger (a .to) (a .value)) (c .before .before .before .before .record-of .ensures) (rw v at (c .before .before .before .set-integer .ensures)) (c .result .ensures)
+
+result-requires : tie.Need-result-requires
+unfolding step
+result-requires c κs =
+    let s = c .before .before .before .before .before .before .before in
+    let a = s .args in
+    let v = toZ-ofZ w64 (a .value) (s .fits .value) in
+    narrow (a .«record») (a .heap .now) (a .roots .now) (Ask.SetInteger (a .to) (a .value)) (c .before .before .before .record-of .ensures) (rw v at (c .before .before .set-integer .ensures)) (omega arith)
 
 pub phachunoi-set-integer-spec : {M : Type 1} → statement M
 phachunoi-set-integer-spec =

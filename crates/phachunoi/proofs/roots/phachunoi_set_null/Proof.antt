@@ -19,12 +19,6 @@ record-of-requires c κs = search needs
 set-null-requires : tie.Need-set-null-requires
 set-null-requires c κs = search needs
 
-result-requires : tie.Need-result-requires
-unfolding step
-result-requires c κs =
-    let a = c .before .before .before .before .before .before .before .args in
-    narrow (a .«record») (a .heap .now) (a .roots .now) (Ask.SetNull (a .to)) (c .before .before .before .record-of .ensures) (c .before .before .set-null .ensures) (omega arith)
-
 same-length : tie.Need-same-length
 same-length c = search needs
 
@@ -33,6 +27,12 @@ unfolding step
 returns c =
     let a = c .before .before .before .before .before .before .before .before .args in
     crosses result (a .«record») (a .heap .now) (a .roots .now) (Ask.SetNull (a .to)) (c .before .before .before .before .record-of .ensures) (c .before .before .before .set-null .ensures) (c .result .ensures)
+
+result-requires : tie.Need-result-requires
+unfolding step
+result-requires c κs =
+    let a = c .before .before .before .before .before .before .before .args in
+    narrow (a .«record») (a .heap .now) (a .roots .now) (Ask.SetNull (a .to)) (c .before .before .before .record-of .ensures) (c .before .before .set-null .ensures) (omega arith)
 
 pub phachunoi-set-null-spec : {M : Type 1} → statement M
 phachunoi-set-null-spec =

@@ -1,4 +1,7 @@
 -- `phachunoi::window::phachunoi_word` meets its contract, test by test.
+use Prim.Native.Nat.{_+_}
+use native.Mathlib.Omega.{arith}
+use lib.ListN.{length}
 use borrow.Author.Tests.{le-leb, lt-leb}
 use Rattle.phachunoi.specs.Numbers.{wordAt}
 use borrow.Author.Needs.{needs}
@@ -16,7 +19,9 @@ answer-requires c κs = search needs
 
 returns : tie.Need-returns
 unfolding wordAt
-returns c = rw (le-leb _ _ (c .before .if1 .taken)) (c .answer .ensures)
+returns c =
+    let a = c .before .before .before .before .args in
+    rw (le-leb (a .window .count) (a .field) (omega (arith, c .before .if1 .taken))) (c .answer .ensures)
 
 cast-at : tie.Need-cast-at
 cast-at c = search needs
@@ -29,7 +34,9 @@ answer-requires-2 c κs = search needs
 
 returns-2 : tie.Need-returns-2
 unfolding wordAt
-returns-2 c = rw (lt-leb _ _ (c .before .before .before .if1 .left), le-leb _ _ (c .before .if2 .taken)) (c .answer2 .ensures)
+returns-2 c =
+    let a = c .before .before .before .before .before .before .args in
+    rw (lt-leb (a .window .count) (a .field) (omega (arith, c .before .before .before .if1 .left)), le-leb (length (a .heap .now)) (a .window .first + a .field) (omega (arith, c .before .if2 .taken))) (c .answer2 .ensures)
 
 mul-t9 : tie.Need-mul-t9
 mul-t9 c = search needs
@@ -42,7 +49,9 @@ answer-requires-3 c κs = search needs
 
 returns-3 : tie.Need-returns-3
 unfolding wordAt
-returns-3 c = rw (lt-leb _ _ (c .before .before .before .before .if1 .left), lt-leb _ _ (c .before .before .if2 .left)) (c .answer3 .ensures)
+returns-3 c =
+    let a = c .before .before .before .before .before .before .before .args in
+    rw (lt-leb (a .window .count) (a .field) (omega (arith, c .before .before .before .before .if1 .left)), lt-leb (length (a .heap .now)) (a .window .first + a .field) (omega (arith, c .before .before .if2 .left))) (c .answer3 .ensures)
 
 pub phachunoi-word-spec : {M : Type 1} → statement M
 phachunoi-word-spec =
