@@ -45,13 +45,21 @@ pub fn record(record: Record) {
     index(record.free);
 }
 
-// Refusal, what the root holds, value: "0/1/-1" is the integer -1.
+fn wide(value: i32) -> i64 {
+    value as i64
+}
+
+// Refusal, what the root holds, integer or value: "0/1/-1" is the integer -1.
 pub fn told(told: Told) {
     number(told.refusal);
     text(b"/");
     number(told.holds);
     text(b"/");
-    integer(told.value);
+    if told.holds == 1 {
+        integer(wide(told.integer));
+        return;
+    }
+    number(told.value);
 }
 
 // Each word behind a space.

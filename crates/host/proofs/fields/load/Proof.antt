@@ -11,7 +11,9 @@ use Rattle.host.proofs.ByValueTypes.{answered, usize-by-value}
 use Rattle.host.proofs.ThinRoots3 as walk
 use Rattle.objects.proofs.fields.load as callee
 use Rattle.objects.proofs.fields.load.Symbol as callee-def
+use Rattle.objects.proofs.fields.load.Symbol.{name as #callee}
 use Rattle.objects.proofs.fields.load.Met as callee-thm
+use Rattle.host.proofs.fields.load.Key.{name as #self}
 use Rattle.host.proofs.fields.load as self
 use Rattle.host.proofs.fields.load.Statement as stated
 use Rattle.host.proofs.fields.load.Code as code

@@ -11,7 +11,9 @@ use Rattle.host.proofs.ByValueTypes.{answered, usize-by-value}
 use Rattle.host.proofs.ThinNeither2 as walk
 use Rattle.objects.proofs.fields.raw_read as callee
 use Rattle.objects.proofs.fields.raw_read.Symbol as callee-def
+use Rattle.objects.proofs.fields.raw_read.Symbol.{name as #callee}
 use Rattle.objects.proofs.fields.raw_read.Met as callee-thm
+use Rattle.host.proofs.fields.raw_read.Key.{name as #self}
 use Rattle.host.proofs.fields.raw_read as self
 use Rattle.host.proofs.fields.raw_read.Statement as stated
 use Rattle.host.proofs.fields.raw_read.Code as code

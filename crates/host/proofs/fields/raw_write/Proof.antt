@@ -11,7 +11,9 @@ use Rattle.host.proofs.ByValueTypes.{answered, u32-by-value, usize-by-v
 use Rattle.host.proofs.ThinHeap3 as walk
 use Rattle.objects.proofs.fields.raw_write as callee
 use Rattle.objects.proofs.fields.raw_write.Symbol as callee-def
+use Rattle.objects.proofs.fields.raw_write.Symbol.{name as #callee}
 use Rattle.objects.proofs.fields.raw_write.Met as callee-thm
+use Rattle.host.proofs.fields.raw_write.Key.{name as #self}
 use Rattle.host.proofs.fields.raw_write as self
 use Rattle.host.proofs.fields.raw_write.Statement as stated
 use Rattle.host.proofs.fields.raw_write.Code as code

@@ -11,7 +11,9 @@ use Rattle.host.proofs.ByValueTypes.{answered, usize-by-value}
 use Rattle.host.proofs.ThinHeap3 as walk
 use Rattle.objects.proofs.fields.store as callee
 use Rattle.objects.proofs.fields.store.Symbol as callee-def
+use Rattle.objects.proofs.fields.store.Symbol.{name as #callee}
 use Rattle.objects.proofs.fields.store.Met as callee-thm
+use Rattle.host.proofs.fields.store.Key.{name as #self}
 use Rattle.host.proofs.fields.store as self
 use Rattle.host.proofs.fields.store.Statement as stated
 use Rattle.host.proofs.fields.store.Code as code

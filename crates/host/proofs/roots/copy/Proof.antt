@@ -10,7 +10,9 @@ use Rattle.host.proofs.ByValueTypes.{answered, usize-by-value}
 use Rattle.host.proofs.ThinRoots2 as walk
 use Rattle.access.proofs.roots.copy as callee
 use Rattle.access.proofs.roots.copy.Symbol as callee-def
+use Rattle.access.proofs.roots.copy.Symbol.{name as #callee}
 use Rattle.access.proofs.roots.copy.Met as callee-thm
+use Rattle.host.proofs.roots.copy.Key.{name as #self}
 use Rattle.host.proofs.roots.copy as self
 use Rattle.host.proofs.roots.copy.Statement as stated
 use Rattle.host.proofs.roots.copy.Code as code

@@ -11,7 +11,9 @@ use Rattle.host.proofs.ByValueTypes.{answered, usize-by-value}
 use Rattle.host.proofs.ThinNeither1 as walk
 use Rattle.objects.proofs.inspect.inspect as callee
 use Rattle.objects.proofs.inspect.inspect.Symbol as callee-def
+use Rattle.objects.proofs.inspect.inspect.Symbol.{name as #callee}
 use Rattle.objects.proofs.inspect.inspect.Met as callee-thm
+use Rattle.host.proofs.roots.inspect.Key.{name as #self}
 use Rattle.host.proofs.roots.inspect as self
 use Rattle.host.proofs.roots.inspect.Statement as stated
 use Rattle.host.proofs.roots.inspect.Code as code

@@ -10,7 +10,9 @@ use Rattle.host.proofs.ByValueTypes.{answered, usize-by-value}
 use Rattle.host.proofs.ThinNeither2 as walk
 use Rattle.access.proofs.roots.same as callee
 use Rattle.access.proofs.roots.same.Symbol as callee-def
+use Rattle.access.proofs.roots.same.Symbol.{name as #callee}
 use Rattle.access.proofs.roots.same.Met as callee-thm
+use Rattle.host.proofs.roots.same.Key.{name as #self}
 use Rattle.host.proofs.roots.same as self
 use Rattle.host.proofs.roots.same.Statement as stated
 use Rattle.host.proofs.roots.same.Code as code

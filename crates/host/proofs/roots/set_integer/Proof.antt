@@ -10,7 +10,9 @@ use Rattle.host.proofs.ByValueTypes.{answered, i64-by-value, usize-by-v
 use Rattle.host.proofs.ThinRoots2 as walk
 use Rattle.access.proofs.set_integer.set_integer as callee
 use Rattle.access.proofs.set_integer.set_integer.Symbol as callee-def
+use Rattle.access.proofs.set_integer.set_integer.Symbol.{name as #callee}
 use Rattle.access.proofs.set_integer.set_integer.Met as callee-thm
+use Rattle.host.proofs.roots.set_integer.Key.{name as #self}
 use Rattle.host.proofs.roots.set_integer as self
 use Rattle.host.proofs.roots.set_integer.Statement as stated
 use Rattle.host.proofs.roots.set_integer.Code as code

@@ -10,7 +10,9 @@ use Rattle.host.proofs.ByValueTypes.{answered, usize-by-value}
 use Rattle.host.proofs.ThinRoots1 as walk
 use Rattle.access.proofs.roots.set_null as callee
 use Rattle.access.proofs.roots.set_null.Symbol as callee-def
+use Rattle.access.proofs.roots.set_null.Symbol.{name as #callee}
 use Rattle.access.proofs.roots.set_null.Met as callee-thm
+use Rattle.host.proofs.roots.set_null.Key.{name as #self}
 use Rattle.host.proofs.roots.set_null as self
 use Rattle.host.proofs.roots.set_null.Statement as stated
 use Rattle.host.proofs.roots.set_null.Code as code

@@ -11,7 +11,9 @@ use Rattle.host.proofs.ByValueTypes.{answered, kind-by-value, usize-by-
 use Rattle.host.proofs.ThinBoth3 as walk
 use Rattle.session.proofs.allocate.allocate as callee
 use Rattle.session.proofs.allocate.allocate.Symbol as callee-def
+use Rattle.session.proofs.allocate.allocate.Symbol.{name as #callee}
 use Rattle.session.proofs.allocate.allocate.Met as callee-thm
+use Rattle.host.proofs.whole.allocate.Key.{name as #self}
 use Rattle.host.proofs.whole.allocate as self
 use Rattle.host.proofs.whole.allocate.Statement as stated
 use Rattle.host.proofs.whole.allocate.Code as code

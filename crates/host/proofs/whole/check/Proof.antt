@@ -11,7 +11,9 @@ use Rattle.host.proofs.ByValueTypes.{answered}
 use Rattle.host.proofs.ThinHeap0 as walk
 use Rattle.checker.proofs.check as callee
 use Rattle.checker.proofs.check.Symbol as callee-def
+use Rattle.checker.proofs.check.Symbol.{name as #callee}
 use Rattle.checker.proofs.check.Met as callee-thm
+use Rattle.host.proofs.whole.check.Key.{name as #self}
 use Rattle.host.proofs.whole.check as self
 use Rattle.host.proofs.whole.check.Statement as stated
 use Rattle.host.proofs.whole.check.Code as code

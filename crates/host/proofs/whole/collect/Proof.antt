@@ -11,7 +11,9 @@ use Rattle.host.proofs.ByValueTypes.{answered}
 use Rattle.host.proofs.ThinBoth0 as walk
 use Rattle.session.proofs.collect.collect as callee
 use Rattle.session.proofs.collect.collect.Symbol as callee-def
+use Rattle.session.proofs.collect.collect.Symbol.{name as #callee}
 use Rattle.session.proofs.collect.collect.Met as callee-thm
+use Rattle.host.proofs.whole.collect.Key.{name as #self}
 use Rattle.host.proofs.whole.collect as self
 use Rattle.host.proofs.whole.collect.Statement as stated
 use Rattle.host.proofs.whole.collect.Code as code

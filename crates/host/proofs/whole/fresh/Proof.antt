@@ -10,7 +10,9 @@ use Rattle.host.proofs.ByValueTypes.{answered}
 use Rattle.host.proofs.ThinHeap0 as walk
 use Rattle.access.proofs.fresh.fresh as callee
 use Rattle.access.proofs.fresh.fresh.Symbol as callee-def
+use Rattle.access.proofs.fresh.fresh.Symbol.{name as #callee}
 use Rattle.access.proofs.fresh.fresh.Met as callee-thm
+use Rattle.host.proofs.whole.fresh.Key.{name as #self}
 use Rattle.host.proofs.whole.fresh as self
 use Rattle.host.proofs.whole.fresh.Statement as stated
 use Rattle.host.proofs.whole.fresh.Code as code

@@ -11,7 +11,9 @@ use Rattle.host.proofs.ByValueTypes.{answered, call-by-value}
 use Rattle.host.proofs.ThinBoth1 as walk
 use Rattle.session.proofs.step.step as callee
 use Rattle.session.proofs.step.step.Symbol as callee-def
+use Rattle.session.proofs.step.step.Symbol.{name as #callee}
 use Rattle.session.proofs.step.step.Met as callee-thm
+use Rattle.host.proofs.whole.step.Key.{name as #self}
 use Rattle.host.proofs.whole.step as self
 use Rattle.host.proofs.whole.step.Statement as stated
 use Rattle.host.proofs.whole.step.Code as code

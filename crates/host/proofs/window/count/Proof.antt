@@ -14,7 +14,7 @@ use ghost.Atoms.{Atoms, sem}
 use contract.Lifetimes.{Lfts}
 use contract.Monad.{Fun, fact}
 use contract.Running.{givenOf, tables, tablesOf}
-use types.Kit.{Given, ‵, raw, some, later, !, qed, by, move, drop, use1, split, join, pick, suffices, frame, await, done}
+use types.Kit.{Given, ‵, raw, _⊛_, some, later, _$_, _∵_, !, qed, by, move, drop, use1, split, join, pick, suffices, frame, await, done}
 use types.Part.{whole, sub, look-in}
 use types.Run.{look, init, forget, stop, fld, from, load, of-opd, and-then, no-more, assigns, land, returns, enter, alloc1, alloc0, params1, pass1, pass0, free1, free0}
 use sound.WpLaws.{FmC, fmOf, WpFn-mono}
@@ -43,7 +43,9 @@ use Rattle.model.proofs.Place as P
 use Rattle.model.proofs.Place.Laws as P′
 use Rattle.host.proofs.window.count_of as callee
 use Rattle.host.proofs.window.count_of.Symbol as callee-def
+use Rattle.host.proofs.window.count_of.Symbol.{name as #callee}
 use Rattle.host.proofs.window.count_of.Met as callee-thm
+use Rattle.host.proofs.window.count.Key.{name as #self}
 use Rattle.host.proofs.window.count as self
 use Rattle.host.proofs.window.count.Statement as stated
 use Rattle.host.proofs.window.count.Code as code

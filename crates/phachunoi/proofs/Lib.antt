@@ -1,0 +1,4 @@
+pub mod ShapeFirst
+pub mod FreeIndexes
+pub mod Crosses
+pub mod Laws
