@@ -1,0 +1,20 @@
+#!/bin/sh
+# Proves the boundary crate and puts what a C host needs under dist/: the archive, the header, a pkg-config file.
+set -eu
+cd "$(dirname "$0")/.."
+version=$(sed -n 's/^#define PHACHUNOI_VERSION_\(MAJOR\|MINOR\|PATCH\) //p' include/phachunoi.h | paste -sd.)
+
+rt staticlib phachunoi
+mkdir -p dist/lib/pkgconfig dist/include
+cp target/staticlib/libphachunoi.a dist/lib/
+cp include/phachunoi.h dist/include/
+# The folder is found from the file's own place, so that dist/ can be moved as a whole.
+cat >dist/lib/pkgconfig/phachunoi.pc <<END
+prefix=\${pcfiledir}/../..
+Name: phachunoi
+Description: A heap of two halves with a proved copying collector
+Version: $version
+Cflags: -I\${prefix}/include
+Libs: -L\${prefix}/lib -lphachunoi
+END
+echo "dist/ has lib/libphachunoi.a, include/phachunoi.h and lib/pkgconfig/phachunoi.pc"
