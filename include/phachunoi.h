@@ -219,8 +219,9 @@ PHACHUNOI_API phachunoi_seen phachunoi_inspect(const uint32_t *heap, size_t word
 PHACHUNOI_API phachunoi_window phachunoi_open(const uint32_t *heap, size_t words, const uint32_t *roots,
                                               size_t root_count, phachunoi_record record, size_t object);
 
-/* value is the word at a field number of a window, by the numbers in it; the fields of a refused window are none, and
-   so are those that would lie outside the heap. Changes nothing. Refusals: FIELD. */
+/* value is the word at a field number of a window: heap[first + field], where field is below count and the word lies in
+   the heap. It goes by those two numbers, which are 0 in a refused window, and by nothing else. Changes nothing.
+   Refusals: FIELD. */
 PHACHUNOI_API phachunoi_answer phachunoi_word(const uint32_t *heap, size_t words, phachunoi_window window,
                                               size_t field);
 

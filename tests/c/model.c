@@ -249,9 +249,9 @@ static struct said open_window(const struct state *s, size_t object) {
   return r;
 }
 
-/* By the numbers of the window alone; a word outside the heap is no field. */
+/* By first and count alone, which are 0 in a refused window; a word outside the heap is no field. */
 static uint32_t word_of(const struct state *s, const uint32_t *window, size_t field, uint32_t *word) {
-  if (window[0] != 0 || field >= window[2] || window[1] + field >= s->words) return FIELD;
+  if (field >= window[2] || window[1] + field >= s->words) return FIELD;
   *word = s->heap[window[1] + field];
   return 0;
 }

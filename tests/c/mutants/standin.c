@@ -331,7 +331,7 @@ phachunoi_window phachunoi_open(const uint32_t *heap, size_t words, const uint32
 phachunoi_answer phachunoi_word(const uint32_t *heap, size_t words, phachunoi_window window, size_t field) {
   phachunoi_answer a = {0, 0};
   if (BUG(26)) field = (uint32_t)field; /* a field number is narrowed */
-  if (window.refusal || field >= window.count || window.first + field >= words) return a.refusal = 7, a;
+  if (field >= window.count || window.first + field >= words) return a.refusal = 7, a;
   a.value = heap[window.first + field];
   return a;
 }
