@@ -40,20 +40,23 @@ number Why.Field = 7
 number Why.Damaged = 8
 number Why.Room = 9
 
--- an answer in numbers
-abbrev pub tells : ℕ → ℕ → ℤ → Told
-tells k h v = record { refusal = k; holds = h; value = v }
+-- an answer in numbers: only an integer has a sign, so it has a place of its own
+abbrev pub tells : ℕ → ℕ → ℕ → Told
+tells k h v = record { refusal = k; holds = h; integer = pos 0; value = v }
+
+abbrev pub tellsInteger : ℤ → Told
+tellsInteger v = record { refusal = 0; holds = 1; integer = v; value = 0 }
 
 abbrev pub told : Answer → Told
-told Says.Done = tells 0 0 (pos 0)
-told (Says.Live n) = tells 0 0 (pos n)
-told Says.Sound = tells 0 0 (pos 1)
-told Says.Unsound = tells 0 0 (pos 0)
-told Says.Yes = tells 0 0 (pos 1)
-told Says.No = tells 0 0 (pos 0)
-told Says.Null = tells 0 0 (pos 0)
-told (Says.Integer v) = tells 0 1 v
-told (Says.Object Traced n) = tells 0 2 (pos n)
-told (Says.Object Untraced n) = tells 0 3 (pos n)
-told (Says.Number w) = tells 0 0 (pos w)
-told (Says.Refused k) = tells (number k) 0 (pos 0)
+told Says.Done = tells 0 0 0
+told (Says.Live n) = tells 0 0 n
+told Says.Sound = tells 0 0 1
+told Says.Unsound = tells 0 0 0
+told Says.Yes = tells 0 0 1
+told Says.No = tells 0 0 0
+told Says.Null = tells 0 0 0
+told (Says.Integer v) = tellsInteger v
+told (Says.Object Traced n) = tells 0 2 n
+told (Says.Object Untraced n) = tells 0 3 n
+told (Says.Number w) = tells 0 0 w
+told (Says.Refused k) = tells (number k) 0 0

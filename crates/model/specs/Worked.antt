@@ -5,7 +5,7 @@ use mathlib.Core.Path.{_≡_, refl}
 use mathlib.Core.Bool.{Bool, true, false}
 use mathlib.Core.List.{List, [], _∷_, _++_, map}
 use lib.ListN.{set, replicate}
-use lib.IntN.{ℤ, pos, negsuc}
+use lib.IntN.{pos, negsuc}
 use Rattle.model.specs.declared.Half.{Half}
 use Rattle.model.specs.declared.Half.the-variants.{A, B}
 use Rattle.model.specs.declared.Kind.the-variants.{Traced, Untraced}
@@ -20,7 +20,7 @@ use Rattle.model.specs.Discovery.{mem, visit, visits, packed, wordsBefor
 use Rattle.model.specs.Soundness.{tiles, headersFrom, isValue, fieldsAreValues, sound}
 use Rattle.model.specs.Collection.{cells, wordLeads, cellLeads, orderAt, live, rename, copied}
 use Rattle.model.specs.declared.Told.{Told}
-use Rattle.model.specs.Answers.{refuse, tells, told}
+use Rattle.model.specs.Answers.{refuse, tells, tellsInteger, told}
 use Rattle.model.specs.Changes.{placed}
 use Rattle.model.specs.Calls.{check, collect, allocate, setInteger, setNull, copy, load, store, rawRead, rawWrite, same, inspect}
 use Rattle.model.specs.Sessions.{step, machine, answers, after}
@@ -39,16 +39,13 @@ case s cs a e = record { start = s; calls = cs; answered = a; left = e }
 
 -- "done", refusal k, and an answer with the value v
 abbrev pub done : Told
-done = tells 0 0 (pos 0)
+done = tells 0 0 0
 
 abbrev pub refused : ℕ → Told
-refused k = tells k 0 (pos 0)
+refused k = tells k 0 0
 
 abbrev pub gives : ℕ → Told
-gives v = tells 0 0 (pos v)
-
-abbrev pub integerIs : ℤ → Told
-integerIs v = tells 0 1 v
+gives v = tells 0 0 v
 
 -- half A or B, the free index, the heap's words and the roots
 abbrev pub state : Half → ℕ → List ℕ → List ℕ → State
@@ -72,10 +69,10 @@ cases =
     -- P1: 10, 0 and -1
     case oneNull (Ask.SetInteger 0 (pos 10) ∷ []) (done ∷ []) (state A 1 blank (21 ∷ []))
     ∷ case oneNull (Ask.SetInteger 0 (pos 0) ∷ []) (done ∷ []) (state A 1 blank (1 ∷ []))
-    ∷ case oneNull (Ask.SetInteger 0 (negsuc 0) ∷ Ask.Inspect 0 ∷ []) (done ∷ integerIs (negsuc 0) ∷ []) (state A 1 blank (0xffffffff ∷ []))
+    ∷ case oneNull (Ask.SetInteger 0 (negsuc 0) ∷ Ask.Inspect 0 ∷ []) (done ∷ tellsInteger (negsuc 0) ∷ []) (state A 1 blank (0xffffffff ∷ []))
     -- P2: the largest, the smallest, and one too many
-    ∷ case oneNull (Ask.SetInteger 0 (pos 1_073_741_823) ∷ Ask.Inspect 0 ∷ []) (done ∷ integerIs (pos 1_073_741_823) ∷ []) (state A 1 blank (0x7fffffff ∷ []))
-    ∷ case oneNull (Ask.SetInteger 0 (negsuc 1_073_741_823) ∷ Ask.Inspect 0 ∷ []) (done ∷ integerIs (negsuc 1_073_741_823) ∷ []) (state A 1 blank (0x80000001 ∷ []))
+    ∷ case oneNull (Ask.SetInteger 0 (pos 1_073_741_823) ∷ Ask.Inspect 0 ∷ []) (done ∷ tellsInteger (pos 1_073_741_823) ∷ []) (state A 1 blank (0x7fffffff ∷ []))
+    ∷ case oneNull (Ask.SetInteger 0 (negsuc 1_073_741_823) ∷ Ask.Inspect 0 ∷ []) (done ∷ tellsInteger (negsuc 1_073_741_823) ∷ []) (state A 1 blank (0x80000001 ∷ []))
     ∷ case oneNull (Ask.SetInteger 0 (pos 1_073_741_824) ∷ []) (refused 4 ∷ []) oneNull
     -- P3: the tuple (23, 42)
     ∷ case (state A 1 blank (0 ∷ 0 ∷ []))
@@ -85,7 +82,7 @@ cases =
     -- P4: "hello", collected and read back
     ∷ case oneNull
     (Ask.Allocate Untraced 2 0 ∷ Ask.RawWrite 0 0 0x6c6c6568 ∷ Ask.RawWrite 0 1 0x6f ∷ Ask.Collect ∷ Ask.RawRead 0 0 ∷ Ask.Inspect 0 ∷ [])
-    (done ∷ done ∷ done ∷ gives 3 ∷ gives 0x6c6c6568 ∷ tells 0 3 (pos 2) ∷ [])
+    (done ∷ done ∷ done ∷ gives 3 ∷ gives 0x6c6c6568 ∷ tells 0 3 2 ∷ [])
     (state B 12 (replicate 9 0 ++ 0x80000004 ∷ 0x6c6c6568 ∷ 0x0000006f ∷ replicate 5 0) (36 ∷ []))
     -- P5, P6, P7, P8
     ∷ case (state A 7 p5 (24 ∷ 12 ∷ [])) (Ask.Collect ∷ []) (gives 4 ∷ []) (state B 13 p5′ (36 ∷ 40 ∷ []))

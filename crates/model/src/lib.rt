@@ -82,8 +82,10 @@ pub struct Told {
     pub refusal: u32,
     // What the root of an inspect holds: 0 null, 1 an integer, 2 a traced object, 3 an untraced one.
     pub holds: u32,
-    // Live words, an integer, a field count, a raw word, or 1 for sound and for yes.
-    pub value: i64,
+    // The integer that it holds, else 0.
+    pub integer: i32,
+    // Live words, a field count, a raw word, or 1 for sound and for yes.
+    pub value: u32,
 }
 
 // A session call. Roots are named by number.

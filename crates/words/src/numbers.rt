@@ -1,6 +1,5 @@
 // Answers in document 01's numbers, for hosts that count refusals and not names.
 ghost use mathlib.Core.Path.{_≡_};
-ghost use lib.IntN.{pos};
 ghost use Rattle.model.specs.declared.Answer.the-variants as Says;
 ghost use Rattle.model.specs.Answers as Answers;
 use model::Answer;
@@ -25,12 +24,13 @@ pub fn number(refusal: Refusal) -> u32
 }
 
 fn tells(refusal: u32, holds: u32, value: u32) -> Told
-    ensures { λ r. ⌜ r ≡ Answers.tells refusal holds (pos value) ⌝ }
+    ensures { λ r. ⌜ r ≡ Answers.tells refusal holds value ⌝ }
 {
     Told {
         refusal: refusal,
         holds: holds,
-        value: value as i64,
+        integer: 0,
+        value: value,
     }
 }
 
@@ -40,7 +40,8 @@ fn integer(value: i32) -> Told
     Told {
         refusal: 0,
         holds: 1,
-        value: value as i64,
+        integer: value,
+        value: 0,
     }
 }
 

@@ -1,0 +1,3 @@
+pub mod ShapeFirst
+pub mod FreeIndexes
+pub mod Crosses

@@ -1,0 +1,39 @@
+-- `phachunoi::fields::phachunoi_load` meets its contract: its numbers cross to the call and back.
+use native.Mathlib.Omega.{arith}
+use Rattle.model.specs.declared.Call.the-variants as Ask
+use Rattle.model.specs.Sessions.{step}
+use Rattle.phachunoi.specs.Numbers.{result}
+use Rattle.phachunoi.proofs.Crosses.{crosses, narrow}
+use borrow.Author.Needs.{needs}
+use Rattle.phachunoi.proofs.fields.phachunoi_load.Statement.{statement}
+use Rattle.phachunoi.proofs.fields.phachunoi_load.Tie as tie
+use Rattle.phachunoi.proofs.fields.phachunoi_load.Reads as reads
+use Rattle.phachunoi.proofs.fields.phachunoi_load.Lts as lts
+use Rattle.access.proofs.fields.load.Reads as load-reads
+use Rattle.phachunoi.proofs.numbers.record_of.Reads as record-of-reads
+use Rattle.phachunoi.proofs.numbers.result.Reads as result-reads
+
+record-of-requires : tie.Need-record-of-requires
+record-of-requires c κs = search needs
+
+load-requires : tie.Need-load-requires
+load-requires c κs = search needs
+
+result-requires : tie.Need-result-requires
+unfolding step
+result-requires c κs =
+    let a = c .before .before .before .before .before .before .before .args in
+    narrow (a .«record») (a .heap .now) (a .roots .now) (Ask.Load (a .object) (a .field) (a .to)) (c .before .before .before .record-of .ensures) (c .before .before .load .ensures) (omega arith)
+
+same-length : tie.Need-same-length
+same-length c = search needs
+
+returns : tie.Need-returns
+unfolding step
+returns c =
+    let a = c .before .before .before .before .before .before .before .before .args in
+    crosses result (a .«record») (a .heap .now) (a .roots .now) (Ask.Load (a .object) (a .field) (a .to)) (c .before .before .before .before .record-of .ensures) (c .before .before .before .load .ensures) (c .result .ensures)
+
+pub phachunoi-load-spec : {M : Type 1} → statement M
+phachunoi-load-spec =
+    tie.close (tie.spec record-of-requires load-requires result-requires same-length returns)

@@ -1,0 +1,32 @@
+-- `phachunoi::fields::phachunoi_raw_read` meets its contract: its numbers cross to the call and back.
+use Rattle.model.specs.declared.Call.the-variants as Ask
+use Rattle.model.specs.Sessions.{step}
+use Rattle.phachunoi.specs.Numbers.{answer}
+use Rattle.phachunoi.proofs.Crosses.{crosses}
+use borrow.Author.Needs.{needs}
+use Rattle.phachunoi.proofs.fields.phachunoi_raw_read.Statement.{statement}
+use Rattle.phachunoi.proofs.fields.phachunoi_raw_read.Tie as tie
+use Rattle.phachunoi.proofs.fields.phachunoi_raw_read.Reads as reads
+use Rattle.phachunoi.proofs.fields.phachunoi_raw_read.Lts as lts
+use Rattle.access.proofs.fields.raw_read.Reads as raw-read-reads
+use Rattle.phachunoi.proofs.numbers.answer.Reads as answer-reads
+use Rattle.phachunoi.proofs.numbers.record_of.Reads as record-of-reads
+
+record-of-requires : tie.Need-record-of-requires
+record-of-requires c κs = search needs
+
+raw-read-requires : tie.Need-raw-read-requires
+raw-read-requires c κs = search needs
+
+answer-requires : tie.Need-answer-requires
+answer-requires c κs = search needs
+
+returns : tie.Need-returns
+unfolding step
+returns c =
+    let a = c .before .before .before .before .before .args in
+    crosses (λ t c. answer t) (a .«record») (a .heap .now) (a .roots .now) (Ask.RawRead (a .object) (a .field)) (c .before .before .record-of .ensures) (c .before .raw-read .ensures) (c .answer .ensures)
+
+pub phachunoi-raw-read-spec : {M : Type 1} → statement M
+phachunoi-raw-read-spec =
+    tie.close (tie.spec record-of-requires raw-read-requires answer-requires returns)

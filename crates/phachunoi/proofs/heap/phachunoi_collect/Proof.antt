@@ -1,0 +1,49 @@
+-- `phachunoi::heap::phachunoi_collect` meets its contract: its numbers cross to the call and back.
+use native.Mathlib.Omega.{arith}
+use Rattle.model.specs.declared.Call.the-variants as Ask
+use Rattle.model.specs.Sessions.{step}
+use Rattle.phachunoi.specs.Numbers.{collected}
+use Rattle.phachunoi.proofs.Crosses.{crosses, narrow}
+use borrow.Author.Needs.{needs}
+use Rattle.phachunoi.proofs.heap.phachunoi_collect.Statement.{statement}
+use Rattle.phachunoi.proofs.heap.phachunoi_collect.Tie as tie
+use Rattle.phachunoi.proofs.heap.phachunoi_collect.Reads as reads
+use Rattle.phachunoi.proofs.heap.phachunoi_collect.Lts as lts
+use Rattle.phachunoi.proofs.numbers.collected.Reads as collected-reads
+use Rattle.phachunoi.proofs.numbers.record_of.Reads as record-of-reads
+use Rattle.session.proofs.collect.collect.Reads as collect-reads
+
+record-of-requires : tie.Need-record-of-requires
+record-of-requires c κs = search needs
+
+collect-requires : tie.Need-collect-requires
+collect-requires c κs = search needs
+
+collected-requires : tie.Need-collected-requires
+unfolding step
+collected-requires c κs =
+    let a = c .before .before .before .before .before .before .before .before .before .before .args in
+    narrow (a .«record») (a .heap .now) (a .roots .now) Ask.Collect (c .before .before .before .before .before .record-of .ensures) (c .before .before .before .before .collect .ensures) (omega arith)
+
+same-length : tie.Need-same-length
+same-length c = search needs
+
+same-length-2 : tie.Need-same-length-2
+same-length-2 c = search needs
+
+returns : tie.Need-returns
+unfolding step
+returns c =
+    let a = c .before .before .before .before .before .before .before .before .before .before .before .args in
+    crosses collected (a .«record») (a .heap .now) (a .roots .now) Ask.Collect (c .before .before .before .before .before .before .record-of .ensures) (c .before .before .before .before .before .collect .ensures) (c .collected .ensures)
+
+pub phachunoi-collect-spec : {M : Type 1} → statement M
+phachunoi-collect-spec =
+    tie.close
+    (tie.spec
+    record-of-requires
+    collect-requires
+    collected-requires
+    same-length
+    same-length-2
+    returns)

@@ -1,0 +1,44 @@
+-- `phachunoi::heap::phachunoi_fresh` meets its contract: fresh is called with no roots.
+use native.Mathlib.Omega.{arith}
+use Rattle.phachunoi.proofs.Crosses.{fresh-crosses, fresh-narrow}
+use borrow.Author.Needs.{needs}
+use Rattle.phachunoi.proofs.heap.phachunoi_fresh.Statement.{statement}
+use Rattle.phachunoi.proofs.heap.phachunoi_fresh.Tie as tie
+use Rattle.phachunoi.proofs.heap.phachunoi_fresh.Reads as reads
+use Rattle.phachunoi.proofs.heap.phachunoi_fresh.Lts as lts
+use Rattle.access.proofs.fresh.fresh.Reads as fresh-reads
+use Rattle.phachunoi.proofs.numbers.fresh_result.Reads as fresh-result-reads
+use Rattle.phachunoi.proofs.numbers.record_of.Reads as record-of-reads
+
+slice-aggregate-fresh : tie.Need-slice-aggregate-fresh
+slice-aggregate-fresh c = search needs
+
+record-of-requires : tie.Need-record-of-requires
+record-of-requires c κs = search needs
+
+fresh-requires : tie.Need-fresh-requires
+fresh-requires c κs = search needs
+
+fresh-result-requires : tie.Need-fresh-result-requires
+fresh-result-requires c κs =
+    let a = c .before .before .before .before .before .before .before .args in
+    fresh-narrow (a .heap .now) (c .before .before .before .record-of .result) (a .«record») (c .before .before .before .record-of .ensures) (c .before .before .fresh .ensures) (omega arith)
+
+same-length : tie.Need-same-length
+same-length c = search needs
+
+returns : tie.Need-returns
+returns c =
+    let a = c .before .before .before .before .before .before .before .before .args in
+    fresh-crosses (a .heap .now) (c .before .before .before .before .record-of .result) (a .«record») (c .before .before .before .fresh .ensures) (c .fresh-result .ensures)
+
+pub phachunoi-fresh-spec : {M : Type 1} → statement M
+phachunoi-fresh-spec =
+    tie.close
+    (tie.spec
+    slice-aggregate-fresh
+    record-of-requires
+    fresh-requires
+    fresh-result-requires
+    same-length
+    returns)

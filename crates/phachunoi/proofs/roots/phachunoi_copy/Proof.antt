@@ -1,0 +1,39 @@
+-- `phachunoi::roots::phachunoi_copy` meets its contract: its numbers cross to the call and back.
+use native.Mathlib.Omega.{arith}
+use Rattle.model.specs.declared.Call.the-variants as Ask
+use Rattle.model.specs.Sessions.{step}
+use Rattle.phachunoi.specs.Numbers.{result}
+use Rattle.phachunoi.proofs.Crosses.{crosses, narrow}
+use borrow.Author.Needs.{needs}
+use Rattle.phachunoi.proofs.roots.phachunoi_copy.Statement.{statement}
+use Rattle.phachunoi.proofs.roots.phachunoi_copy.Tie as tie
+use Rattle.phachunoi.proofs.roots.phachunoi_copy.Reads as reads
+use Rattle.phachunoi.proofs.roots.phachunoi_copy.Lts as lts
+use Rattle.access.proofs.roots.copy.Reads as copy-reads
+use Rattle.phachunoi.proofs.numbers.record_of.Reads as record-of-reads
+use Rattle.phachunoi.proofs.numbers.result.Reads as result-reads
+
+record-of-requires : tie.Need-record-of-requires
+record-of-requires c κs = search needs
+
+copy-requires : tie.Need-copy-requires
+copy-requires c κs = search needs
+
+result-requires : tie.Need-result-requires
+unfolding step
+result-requires c κs =
+    let a = c .before .before .before .before .before .before .before .args in
+    narrow (a .«record») (a .heap .now) (a .roots .now) (Ask.Copy (a .from) (a .to)) (c .before .before .before .record-of .ensures) (c .before .before .copy .ensures) (omega arith)
+
+same-length : tie.Need-same-length
+same-length c = search needs
+
+returns : tie.Need-returns
+unfolding step
+returns c =
+    let a = c .before .before .before .before .before .before .before .before .args in
+    crosses result (a .«record») (a .heap .now) (a .roots .now) (Ask.Copy (a .from) (a .to)) (c .before .before .before .before .record-of .ensures) (c .before .before .before .copy .ensures) (c .result .ensures)
+
+pub phachunoi-copy-spec : {M : Type 1} → statement M
+phachunoi-copy-spec =
+    tie.close (tie.spec record-of-requires copy-requires result-requires same-length returns)

@@ -1,0 +1,32 @@
+-- `phachunoi::roots::phachunoi_inspect` meets its contract: its numbers cross to the call and back.
+use Rattle.model.specs.declared.Call.the-variants as Ask
+use Rattle.model.specs.Sessions.{step}
+use Rattle.phachunoi.specs.Numbers.{seen}
+use Rattle.phachunoi.proofs.Crosses.{crosses}
+use borrow.Author.Needs.{needs}
+use Rattle.phachunoi.proofs.roots.phachunoi_inspect.Statement.{statement}
+use Rattle.phachunoi.proofs.roots.phachunoi_inspect.Tie as tie
+use Rattle.phachunoi.proofs.roots.phachunoi_inspect.Reads as reads
+use Rattle.phachunoi.proofs.roots.phachunoi_inspect.Lts as lts
+use Rattle.access.proofs.inspect.inspect.Reads as inspect-reads
+use Rattle.phachunoi.proofs.numbers.record_of.Reads as record-of-reads
+use Rattle.phachunoi.proofs.numbers.seen.Reads as seen-reads
+
+record-of-requires : tie.Need-record-of-requires
+record-of-requires c κs = search needs
+
+inspect-requires : tie.Need-inspect-requires
+inspect-requires c κs = search needs
+
+seen-requires : tie.Need-seen-requires
+seen-requires c κs = search needs
+
+returns : tie.Need-returns
+unfolding step
+returns c =
+    let a = c .before .before .before .before .before .args in
+    crosses (λ t c. seen t) (a .«record») (a .heap .now) (a .roots .now) (Ask.Inspect (a .root)) (c .before .before .record-of .ensures) (c .before .inspect .ensures) (c .seen .ensures)
+
+pub phachunoi-inspect-spec : {M : Type 1} → statement M
+phachunoi-inspect-spec =
+    tie.close (tie.spec record-of-requires inspect-requires seen-requires returns)

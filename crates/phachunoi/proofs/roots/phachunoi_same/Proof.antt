@@ -1,0 +1,31 @@
+-- `phachunoi::roots::phachunoi_same` meets its contract: its numbers cross to the call and back.
+use Rattle.model.specs.declared.Call.the-variants as Ask
+use Rattle.model.specs.Sessions.{step}
+use Rattle.phachunoi.specs.Numbers.{answer}
+use Rattle.phachunoi.proofs.Crosses.{crosses}
+use borrow.Author.Needs.{needs}
+use Rattle.phachunoi.proofs.roots.phachunoi_same.Statement.{statement}
+use Rattle.phachunoi.proofs.roots.phachunoi_same.Tie as tie
+use Rattle.phachunoi.proofs.roots.phachunoi_same.Reads as reads
+use Rattle.phachunoi.proofs.roots.phachunoi_same.Lts as lts
+use Rattle.access.proofs.roots.same.Reads as same-reads
+use Rattle.phachunoi.proofs.numbers.answer.Reads as answer-reads
+use Rattle.phachunoi.proofs.numbers.record_of.Reads as record-of-reads
+
+record-of-requires : tie.Need-record-of-requires
+record-of-requires c κs = search needs
+
+same-requires : tie.Need-same-requires
+same-requires c κs = search needs
+
+answer-requires : tie.Need-answer-requires
+answer-requires c κs = search needs
+
+returns : tie.Need-returns
+unfolding step
+returns c =
+    let a = c .before .before .before .before .before .args in
+    crosses (λ t c. answer t) (a .«record») (a .heap .now) (a .roots .now) (Ask.Same (a .one) (a .other)) (c .before .before .record-of .ensures) (c .before .same .ensures) (c .answer .ensures)
+
+pub phachunoi-same-spec : {M : Type 1} → statement M
+phachunoi-same-spec = tie.close (tie.spec record-of-requires same-requires answer-requires returns)

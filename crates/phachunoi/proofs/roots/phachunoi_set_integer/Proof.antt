@@ -1,0 +1,46 @@
+-- `phachunoi::roots::phachunoi_set_integer` meets its contract: its numbers cross to the call and back.
+use native.Mathlib.Omega.{arith}
+use mir.Syntax.{w64}
+use mir.ValLaws.{toZ-ofZ}
+use Rattle.model.specs.declared.Call.the-variants as Ask
+use Rattle.model.specs.Sessions.{step}
+use Rattle.phachunoi.specs.Numbers.{result}
+use Rattle.phachunoi.proofs.Crosses.{crosses, narrow}
+use borrow.Author.Needs.{needs}
+use Rattle.phachunoi.proofs.roots.phachunoi_set_integer.Statement.{statement}
+use Rattle.phachunoi.proofs.roots.phachunoi_set_integer.Tie as tie
+use Rattle.phachunoi.proofs.roots.phachunoi_set_integer.Reads as reads
+use Rattle.phachunoi.proofs.roots.phachunoi_set_integer.Lts as lts
+use Rattle.access.proofs.set_integer.set_integer.Reads as set-integer-reads
+use Rattle.phachunoi.proofs.numbers.record_of.Reads as record-of-reads
+use Rattle.phachunoi.proofs.numbers.result.Reads as result-reads
+
+record-of-requires : tie.Need-record-of-requires
+record-of-requires c κs = search needs
+
+set-integer-requires : tie.Need-set-integer-requires
+set-integer-requires c κs = search needs
+
+result-requires : tie.Need-result-requires
+unfolding step
+result-requires c κs =
+    let s = c .before .before .before .before .before .before .before in
+    let a = s .args in
+    let v = toZ-ofZ w64 (a .value) (s .fits .value) in
+    narrow (a .«record») (a .heap .now) (a .roots .now) (Ask.SetInteger (a .to) (a .value)) (c .before .before .before .record-of .ensures) (rw v at (c .before .before .set-integer .ensures)) (omega arith)
+
+same-length : tie.Need-same-length
+same-length c = search needs
+
+returns : tie.Need-returns
+unfolding step
+returns c =
+    let s = c .before .before .before .before .before .before .before .before in
+    let a = s .args in
+    let v = toZ-ofZ w64 (a .value) (s .fits .value) in
+    crosses result (a .«record») (a .heap .now) (a .roots .now) (Ask.SetInteger (a .to) (a .value)) (c .before .before .before .before .record-of .ensures) (rw v at (c .before .before .before .set-integer .ensures)) (c .result .ensures)
+
+pub phachunoi-set-integer-spec : {M : Type 1} → statement M
+phachunoi-set-integer-spec =
+    tie.close
+    (tie.spec record-of-requires set-integer-requires result-requires same-length returns)

@@ -1,0 +1,39 @@
+-- `phachunoi::roots::phachunoi_set_null` meets its contract: its numbers cross to the call and back.
+use native.Mathlib.Omega.{arith}
+use Rattle.model.specs.declared.Call.the-variants as Ask
+use Rattle.model.specs.Sessions.{step}
+use Rattle.phachunoi.specs.Numbers.{result}
+use Rattle.phachunoi.proofs.Crosses.{crosses, narrow}
+use borrow.Author.Needs.{needs}
+use Rattle.phachunoi.proofs.roots.phachunoi_set_null.Statement.{statement}
+use Rattle.phachunoi.proofs.roots.phachunoi_set_null.Tie as tie
+use Rattle.phachunoi.proofs.roots.phachunoi_set_null.Reads as reads
+use Rattle.phachunoi.proofs.roots.phachunoi_set_null.Lts as lts
+use Rattle.access.proofs.roots.set_null.Reads as set-null-reads
+use Rattle.phachunoi.proofs.numbers.record_of.Reads as record-of-reads
+use Rattle.phachunoi.proofs.numbers.result.Reads as result-reads
+
+record-of-requires : tie.Need-record-of-requires
+record-of-requires c κs = search needs
+
+set-null-requires : tie.Need-set-null-requires
+set-null-requires c κs = search needs
+
+result-requires : tie.Need-result-requires
+unfolding step
+result-requires c κs =
+    let a = c .before .before .before .before .before .before .before .args in
+    narrow (a .«record») (a .heap .now) (a .roots .now) (Ask.SetNull (a .to)) (c .before .before .before .record-of .ensures) (c .before .before .set-null .ensures) (omega arith)
+
+same-length : tie.Need-same-length
+same-length c = search needs
+
+returns : tie.Need-returns
+unfolding step
+returns c =
+    let a = c .before .before .before .before .before .before .before .before .args in
+    crosses result (a .«record») (a .heap .now) (a .roots .now) (Ask.SetNull (a .to)) (c .before .before .before .before .record-of .ensures) (c .before .before .before .set-null .ensures) (c .result .ensures)
+
+pub phachunoi-set-null-spec : {M : Type 1} → statement M
+phachunoi-set-null-spec =
+    tie.close (tie.spec record-of-requires set-null-requires result-requires same-length returns)

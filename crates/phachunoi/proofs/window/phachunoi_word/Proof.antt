@@ -1,0 +1,61 @@
+-- `phachunoi::window::phachunoi_word` meets its contract, test by test.
+use borrow.Author.Tests.{le-leb, lt-leb}
+use Rattle.phachunoi.specs.Numbers.{wordAt}
+use borrow.Author.Needs.{needs}
+use Rattle.phachunoi.proofs.window.phachunoi_word.Statement.{statement}
+use Rattle.phachunoi.proofs.window.phachunoi_word.Tie as tie
+use Rattle.phachunoi.proofs.window.phachunoi_word.Reads as reads
+use Rattle.phachunoi.proofs.window.phachunoi_word.Lts as lts
+use Rattle.phachunoi.proofs.numbers.answer.Reads as answer-reads
+
+cast-count : tie.Need-cast-count
+cast-count c = search needs
+
+answer-requires : tie.Need-answer-requires
+answer-requires c κs = search needs
+
+returns : tie.Need-returns
+unfolding wordAt
+returns c = rw (le-leb _ _ (c .before .if1 .taken)) (c .answer .ensures)
+
+cast-at : tie.Need-cast-at
+cast-at c = search needs
+
+add-at : tie.Need-add-at
+add-at c = search needs
+
+answer-requires-2 : tie.Need-answer-requires-2
+answer-requires-2 c κs = search needs
+
+returns-2 : tie.Need-returns-2
+unfolding wordAt
+returns-2 c = rw (lt-leb _ _ (c .before .before .before .if1 .left), le-leb _ _ (c .before .if2 .taken)) (c .answer2 .ensures)
+
+mul-t9 : tie.Need-mul-t9
+mul-t9 c = search needs
+
+shared-slice-read-t13 : tie.Need-shared-slice-read-t13
+shared-slice-read-t13 c = search needs
+
+answer-requires-3 : tie.Need-answer-requires-3
+answer-requires-3 c κs = search needs
+
+returns-3 : tie.Need-returns-3
+unfolding wordAt
+returns-3 c = rw (lt-leb _ _ (c .before .before .before .before .if1 .left), lt-leb _ _ (c .before .before .if2 .left)) (c .answer3 .ensures)
+
+pub phachunoi-word-spec : {M : Type 1} → statement M
+phachunoi-word-spec =
+    tie.close
+    (tie.spec
+    cast-count
+    answer-requires
+    returns
+    cast-at
+    add-at
+    answer-requires-2
+    returns-2
+    mul-t9
+    shared-slice-read-t13
+    answer-requires-3
+    returns-3)

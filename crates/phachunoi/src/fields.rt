@@ -1,0 +1,77 @@
+// The calls on a field of the object that a root names: load, store, raw read, raw write. No object moves. Each may
+// refuse with SHAPE, ROOT, OBJECT, KIND or FIELD.
+ghost use mathlib.Core.Path.{_≡_};
+ghost use Rattle.model.specs.Headers as Layouts;
+ghost use Rattle.model.specs.Calls as Calls;
+ghost use Rattle.phachunoi.specs.Numbers as Numbers;
+ghost use Rattle.phachunoi.specs.Numbers.{given, called};
+use super::numbers::CAnswer;
+use super::numbers::CRecord;
+use super::numbers::CResult;
+use super::numbers::answer;
+use super::numbers::record_of;
+use super::numbers::result;
+
+// Root `to` gets the word in a field of a traced object.
+#[no_mangle]
+pub extern "C" fn phachunoi_load(
+    heap: &[u32],
+    roots: &mut [u32],
+    record: CRecord,
+    object: usize,
+    field: usize,
+    to: usize,
+) -> CResult
+    ensures { λ r. ⌜ given r (now (heap .entry)) (now (roots .exit)) ≡ called Numbers.result (Calls.load Layouts.tuple object field to) (now (heap .entry)) (now (roots .entry)) «record» ⌝ }
+{
+    let done = access::fields::load(heap, roots, record_of(record), object, field, to);
+    result(record, done)
+}
+
+// A field of a traced object gets root `from`'s word.
+#[no_mangle]
+pub extern "C" fn phachunoi_store(
+    heap: &mut [u32],
+    roots: &[u32],
+    record: CRecord,
+    object: usize,
+    field: usize,
+    from: usize,
+) -> CResult
+    ensures { λ r. ⌜ given r (now (heap .exit)) (now (roots .entry)) ≡ called Numbers.result (Calls.store Layouts.tuple object field from) (now (heap .entry)) (now (roots .entry)) «record» ⌝ }
+{
+    let done = access::fields::store(heap, roots, record_of(record), object, field, from);
+    result(record, done)
+}
+
+// The raw word in a field of an untraced object.
+#[no_mangle]
+pub extern "C" fn phachunoi_raw_read(
+    heap: &[u32],
+    roots: &[u32],
+    record: CRecord,
+    object: usize,
+    field: usize,
+) -> CAnswer
+    ensures { λ r. ⌜ given r (now (heap .entry)) (now (roots .entry)) ≡ called (λ t c. Numbers.answer t) (Calls.rawRead Layouts.tuple object field) (now (heap .entry)) (now (roots .entry)) «record» ⌝ }
+{
+    let done = access::fields::raw_read(heap, roots, record_of(record), object, field);
+    let said = done.answer;
+    answer(said)
+}
+
+// A field of an untraced object gets a raw word.
+#[no_mangle]
+pub extern "C" fn phachunoi_raw_write(
+    heap: &mut [u32],
+    roots: &[u32],
+    record: CRecord,
+    object: usize,
+    field: usize,
+    number: u32,
+) -> CResult
+    ensures { λ r. ⌜ given r (now (heap .exit)) (now (roots .entry)) ≡ called Numbers.result (Calls.rawWrite Layouts.tuple object field number) (now (heap .entry)) (now (roots .entry)) «record» ⌝ }
+{
+    let done = access::fields::raw_write(heap, roots, record_of(record), object, field, number);
+    result(record, done)
+}

@@ -1,0 +1,92 @@
+// The calls on a whole heap: fresh, check, collect, allocate.
+ghost use mathlib.Core.Path.{_≡_};
+ghost use mathlib.Core.List.{[]};
+ghost use Rattle.model.specs.declared.Kind.the-variants.{Traced, Untraced};
+ghost use Rattle.model.specs.Headers as Layouts;
+ghost use Rattle.model.specs.Calls as Calls;
+ghost use Rattle.phachunoi.specs.Numbers as Numbers;
+ghost use Rattle.phachunoi.specs.Numbers.{given, called, begun};
+use super::numbers::CCollected;
+use super::numbers::CRecord;
+use super::numbers::CResult;
+use super::numbers::collected;
+use super::numbers::fresh_result;
+use super::numbers::record_of;
+use super::numbers::result;
+use model::Kind;
+
+// Clears all heap words; half A, free index 1. SHAPE is of the heap's length alone, and hands the record back as it came.
+#[no_mangle]
+pub extern "C" fn phachunoi_fresh(heap: &mut [u32], record: CRecord) -> CResult
+    ensures { λ r. ⌜ given r (now (heap .exit)) [] ≡ begun (now (heap .entry)) «record» ⌝ }
+{
+    let roots: [u32; 0] = [];
+    let done = access::fresh::fresh(heap, &roots, record_of(record));
+    fresh_result(record, done)
+}
+
+// Value 1 where the heap is sound, 0 where not; or SHAPE. It marks in the idle half, and no word differs afterwards.
+#[no_mangle]
+pub extern "C" fn phachunoi_check(heap: &mut [u32], roots: &[u32], record: CRecord) -> CResult
+    ensures { λ r. ⌜ given r (now (heap .exit)) (now (roots .entry)) ≡ called Numbers.result (Calls.check Layouts.tuple) (now (heap .entry)) (now (roots .entry)) «record» ⌝ }
+{
+    let done = checker::check(heap, roots, record_of(record));
+    result(record, done)
+}
+
+// The live words; or SHAPE or DAMAGED. Every object may move.
+#[no_mangle]
+pub extern "C" fn phachunoi_collect(
+    heap: &mut [u32],
+    roots: &mut [u32],
+    record: CRecord,
+) -> CCollected
+    ensures { λ r. ⌜ given r (now (heap .exit)) (now (roots .exit)) ≡ called Numbers.collected (Calls.collect Layouts.tuple) (now (heap .entry)) (now (roots .entry)) «record» ⌝ }
+{
+    let done = session::collect::collect(heap, roots, record_of(record));
+    collected(record, done)
+}
+
+// Root `to` gets a new object of values, all null; or SHAPE, ROOT, COUNT, DAMAGED or ROOM. Every object may move.
+#[no_mangle]
+pub extern "C" fn phachunoi_allocate_traced(
+    heap: &mut [u32],
+    roots: &mut [u32],
+    record: CRecord,
+    fields: usize,
+    to: usize,
+) -> CResult
+    ensures { λ r. ⌜ given r (now (heap .exit)) (now (roots .exit)) ≡ called Numbers.result (Calls.allocate Layouts.tuple Traced fields to) (now (heap .entry)) (now (roots .entry)) «record» ⌝ }
+{
+    let done = session::allocate::allocate(
+        heap,
+        roots,
+        record_of(record),
+        Kind::Traced,
+        fields,
+        to,
+    );
+    result(record, done)
+}
+
+// The same of an object of raw words, all 0.
+#[no_mangle]
+pub extern "C" fn phachunoi_allocate_untraced(
+    heap: &mut [u32],
+    roots: &mut [u32],
+    record: CRecord,
+    fields: usize,
+    to: usize,
+) -> CResult
+    ensures { λ r. ⌜ given r (now (heap .exit)) (now (roots .exit)) ≡ called Numbers.result (Calls.allocate Layouts.tuple Untraced fields to) (now (heap .entry)) (now (roots .entry)) «record» ⌝ }
+{
+    let done = session::allocate::allocate(
+        heap,
+        roots,
+        record_of(record),
+        Kind::Untraced,
+        fields,
+        to,
+    );
+    result(record, done)
+}

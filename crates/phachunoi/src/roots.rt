@@ -1,0 +1,89 @@
+// The calls on roots: set, copy, same, inspect. No object moves.
+ghost use mathlib.Core.Path.{_≡_};
+ghost use Rattle.model.specs.Headers as Layouts;
+ghost use Rattle.model.specs.Calls as Calls;
+ghost use Rattle.phachunoi.specs.Numbers as Numbers;
+ghost use Rattle.phachunoi.specs.Numbers.{given, called};
+use super::numbers::CAnswer;
+use super::numbers::CRecord;
+use super::numbers::CResult;
+use super::numbers::CSeen;
+use super::numbers::answer;
+use super::numbers::record_of;
+use super::numbers::result;
+use super::numbers::seen;
+
+// Root `to` gets an integer; or SHAPE, ROOT or RANGE.
+#[no_mangle]
+pub extern "C" fn phachunoi_set_integer(
+    heap: &[u32],
+    roots: &mut [u32],
+    record: CRecord,
+    to: usize,
+    value: i64,
+) -> CResult
+    ensures { λ r. ⌜ given r (now (heap .entry)) (now (roots .exit)) ≡ called Numbers.result (Calls.setInteger to value) (now (heap .entry)) (now (roots .entry)) «record» ⌝ }
+{
+    let done = access::set_integer::set_integer(heap, roots, record_of(record), to, value);
+    result(record, done)
+}
+
+// Root `to` gets null; or SHAPE or ROOT.
+#[no_mangle]
+pub extern "C" fn phachunoi_set_null(
+    heap: &[u32],
+    roots: &mut [u32],
+    record: CRecord,
+    to: usize,
+) -> CResult
+    ensures { λ r. ⌜ given r (now (heap .entry)) (now (roots .exit)) ≡ called Numbers.result (Calls.setNull to) (now (heap .entry)) (now (roots .entry)) «record» ⌝ }
+{
+    let done = access::roots::set_null(heap, roots, record_of(record), to);
+    result(record, done)
+}
+
+// Root `to` gets root `from`'s word; or SHAPE or ROOT.
+#[no_mangle]
+pub extern "C" fn phachunoi_copy(
+    heap: &[u32],
+    roots: &mut [u32],
+    record: CRecord,
+    from: usize,
+    to: usize,
+) -> CResult
+    ensures { λ r. ⌜ given r (now (heap .entry)) (now (roots .exit)) ≡ called Numbers.result (Calls.copy from to) (now (heap .entry)) (now (roots .entry)) «record» ⌝ }
+{
+    let done = access::roots::copy(heap, roots, record_of(record), from, to);
+    result(record, done)
+}
+
+// Value 1 where two roots hold equal words, 0 where not; or SHAPE or ROOT.
+#[no_mangle]
+pub extern "C" fn phachunoi_same(
+    heap: &[u32],
+    roots: &[u32],
+    record: CRecord,
+    one: usize,
+    other: usize,
+) -> CAnswer
+    ensures { λ r. ⌜ given r (now (heap .entry)) (now (roots .entry)) ≡ called (λ t c. Numbers.answer t) (Calls.same one other) (now (heap .entry)) (now (roots .entry)) «record» ⌝ }
+{
+    let done = access::roots::same(heap, roots, record_of(record), one, other);
+    let said = done.answer;
+    answer(said)
+}
+
+// What a root holds; or SHAPE, ROOT or OBJECT.
+#[no_mangle]
+pub extern "C" fn phachunoi_inspect(
+    heap: &[u32],
+    roots: &[u32],
+    record: CRecord,
+    root: usize,
+) -> CSeen
+    ensures { λ r. ⌜ given r (now (heap .entry)) (now (roots .entry)) ≡ called (λ t c. Numbers.seen t) (Calls.inspect Layouts.tuple root) (now (heap .entry)) (now (roots .entry)) «record» ⌝ }
+{
+    let done = access::inspect::inspect(heap, roots, record_of(record), root);
+    let said = done.answer;
+    seen(said)
+}

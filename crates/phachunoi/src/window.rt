@@ -1,0 +1,45 @@
+// The window on an object: where its fields stand, and the word of one. The numbers are the host's to keep, and hold
+// until an object moves.
+ghost use mathlib.Core.Path.{_≡_};
+ghost use Rattle.model.specs.Headers as Layouts;
+ghost use Rattle.model.specs.Answers.{told};
+ghost use Rattle.model.specs.Window.{window};
+ghost use Rattle.phachunoi.specs.Numbers as Numbers;
+use super::numbers::CAnswer;
+use super::numbers::CRecord;
+use super::numbers::CWindow;
+use super::numbers::answer;
+use super::numbers::record_of;
+use super::numbers::window_of;
+use model::Answer;
+use model::Refusal;
+
+// Where the fields of the object that a root names stand, of either kind; or SHAPE, ROOT or OBJECT, and no words.
+#[no_mangle]
+pub extern "C" fn phachunoi_open(
+    heap: &[u32],
+    roots: &[u32],
+    record: CRecord,
+    object: usize,
+) -> CWindow
+    ensures { λ r. ⌜ r ≡ Numbers.opened (window Layouts.tuple object) (now (heap .entry)) (now (roots .entry)) «record» ⌝ }
+{
+    let place = access::window::find(heap, roots, record_of(record), object);
+    window_of(place)
+}
+
+// The word at a field number; or FIELD. It goes by the window's numbers, whatever they are, and by nothing else.
+#[no_mangle]
+pub extern "C" fn phachunoi_word(heap: &[u32], window: CWindow, field: usize) -> CAnswer
+    ensures { λ r. ⌜ r ≡ Numbers.answer (told (Numbers.wordAt (now (heap .entry)) window field)) ⌝ }
+{
+    let count = window.count as usize;
+    if count <= field {
+        return answer(Answer::Refused(Refusal::Field));
+    }
+    let at = window.first as usize + field;
+    if heap.len() <= at {
+        return answer(Answer::Refused(Refusal::Field));
+    }
+    answer(Answer::Number(heap[at]))
+}
