@@ -3,6 +3,7 @@
  * Part 1  limits and numbers: refusals, halves, kinds.
  * Part 2  what the calls return.
  * Part 3  the calls of the archive libphachunoi.a. PROVED: each does what is written here, for all inputs.
+ *         What is trusted besides stands in docs/EMBEDDING.md.
  * Part 4  a struct that keeps words, roots and record together. NOT PROVED: plain C over part 3.
  *
  * Words. A heap is 2S + 1 words of 32 bits, S from 1 to PHACHUNOI_MAX_HALF. Word 0 is reserved and holds 0; half A is
@@ -53,8 +54,9 @@ extern "C" {
 #define PHACHUNOI_INTEGER_MAX 1073741823
 #define PHACHUNOI_WORDS(S) (2u * (size_t)(S) + 1u) /* words to lend for halves of S */
 
-/* Why a call was refused. The lowest number that applies is given. Refusals 1 to 8 change no word, no root and no record;
-   ROOM leaves them as the collection left them. In a refused answer every number but the refusal and the record is 0. */
+/* Why a call was refused. The lowest number that applies is given. Refusals 1 to 8 change no word, no root and no
+   record; ROOM leaves them as the collection left them. In a refused answer every number but the refusal and the
+   record is 0. */
 enum phachunoi_refusal {
   PHACHUNOI_DONE = 0,    /* not refused */
   PHACHUNOI_SHAPE = 1,   /* the heap's length is even, below 3 or above 2,097,153; or more than 65,536 roots; or the
@@ -133,10 +135,10 @@ typedef char phachunoi_layout_as_in_the_archive
 
 /* ---- Part 3: the calls of the archive (proved) ----------------------------------------------------------------- */
 
-/* Every call but version, fresh and word begins with heap, words, roots, root_count, record, and can answer SHAPE. A call
-   that names no answer says "done"; whether an allocation collected is not told. `to` is a root that is written, `from`
-   and `object` are roots that are read; the same root may be named twice. Unless a call is marked "moves objects", every
-   object stays where it is. */
+/* Every call but version, fresh and word begins with heap, words, roots, root_count, record, and can answer SHAPE. A
+   call that names no answer says "done"; whether an allocation collected is not told. `to` is a root that is written,
+   `from` and `object` are roots that are read; the same root may be named twice. Unless a call is marked as moving
+   objects, every object stays where it is. */
 
 /* The archive's PHACHUNOI_VERSION_NUMBER. A host compares it with the header's. */
 PHACHUNOI_API uint32_t phachunoi_version(void);
@@ -146,9 +148,9 @@ PHACHUNOI_API uint32_t phachunoi_version(void);
    Refusals: SHAPE, for the heap's length only. */
 PHACHUNOI_API phachunoi_result phachunoi_fresh(uint32_t *heap, size_t words, phachunoi_record record);
 
-/* Is the heap sound? value is 1 if it is, 0 if not. Sound: no SHAPE; word 0 is 0; the idle half and the free words are 0;
-   objects fill the used words exactly; each root and each field of a traced object is an integer, null or the address of
-   one of those objects. It may mark in an idle half that is all 0, but no word differs afterwards.
+/* Is the heap sound? value is 1 if it is, 0 if not. Sound: no SHAPE; word 0 is 0; the idle half and the free words are
+   0; objects fill the used words exactly; each root and each field of a traced object is an integer, null or the
+   address of one of those objects. It may mark in an idle half that is all 0, but no word differs afterwards.
    Refusals: SHAPE. */
 PHACHUNOI_API phachunoi_result phachunoi_check(uint32_t *heap, size_t words, const uint32_t *roots, size_t root_count,
                                                phachunoi_record record);
@@ -205,8 +207,8 @@ PHACHUNOI_API phachunoi_result phachunoi_raw_write(uint32_t *heap, size_t words,
                                                    size_t root_count, phachunoi_record record, size_t object,
                                                    size_t field, uint32_t number);
 
-/* value is 1 if the two roots hold equal words (the same integer, null, or the same object), else 0. Changes nothing and
-   looks at no heap word. Refusals: SHAPE, ROOT. */
+/* value is 1 if the two roots hold equal words (the same integer, null, or the same object), else 0. Changes nothing
+   and looks at no heap word. Refusals: SHAPE, ROOT. */
 PHACHUNOI_API phachunoi_answer phachunoi_same(const uint32_t *heap, size_t words, const uint32_t *roots,
                                               size_t root_count, phachunoi_record record, size_t one, size_t other);
 
@@ -214,8 +216,8 @@ PHACHUNOI_API phachunoi_answer phachunoi_same(const uint32_t *heap, size_t words
 PHACHUNOI_API phachunoi_seen phachunoi_inspect(const uint32_t *heap, size_t words, const uint32_t *roots,
                                                size_t root_count, phachunoi_record record, size_t root);
 
-/* A window on the object, of either kind, that root `object` names. Changes nothing. The window is two numbers and holds
-   nothing: it is dead after the next call that moves objects. Refusals: SHAPE, ROOT, OBJECT. */
+/* A window on the object, of either kind, that root `object` names. Changes nothing. The window is two numbers and
+   holds nothing: it is dead after the next call that moves objects. Refusals: SHAPE, ROOT, OBJECT. */
 PHACHUNOI_API phachunoi_window phachunoi_open(const uint32_t *heap, size_t words, const uint32_t *roots,
                                               size_t root_count, phachunoi_record record, size_t object);
 
@@ -227,8 +229,9 @@ PHACHUNOI_API phachunoi_answer phachunoi_word(const uint32_t *heap, size_t words
 
 /* ---- Part 4: a heap in one struct (NOT PROVED) ----------------------------------------------------------------- */
 
-/* Everything below is inline C that only keeps the arguments of part 3 together and the record up to date. Each function
-   answers PHACHUNOI_DONE or the refusal, and writes a further answer through its last pointer, refused or not. */
+/* Everything below is inline C that only keeps the arguments of part 3 together and the record up to date. Each
+   function answers PHACHUNOI_DONE or the refusal, and writes a further answer through its last pointer, refused or
+   not; inspect and open return their structs. */
 typedef struct phachunoi_heap {
   uint32_t *words;
   size_t word_count;

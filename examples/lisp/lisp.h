@@ -90,8 +90,8 @@ enum fault bind(struct lisp *l, slot symbol, slot value, slot env); /* env gets 
 enum fault assign(struct lisp *l, slot symbol, slot value, slot env);
 enum fault define(struct lisp *l, slot symbol, slot value);
 
-/* A form whose value is that of another form leaves it in `form`, with its environment, and says so in `again`: calls in
-   the last place then take no stack. */
+/* A form whose value is that of another form leaves it in `form`, with its environment, and says so in `again`: calls
+   in the last place then take no stack. */
 enum fault sequence(struct lisp *l, slot form, slot env, slot to, int *again);
 enum fault special_form(struct lisp *l, int64_t number, slot form, slot env, slot to, int *again);
 enum fault call_primitive(struct lisp *l, int64_t number, slot arguments, slot to);

@@ -1,4 +1,4 @@
-/* The object graph: nodes in a row, never freed; values are a number or a node. No heap word, address or half is here. */
+/* The object graph: nodes in a row, never freed. A value is null, a number or a node; no word, address or half is here. */
 #include "graph.h"
 
 #include <stdlib.h>

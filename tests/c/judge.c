@@ -9,7 +9,7 @@
 
 static struct lent ours, theirs, before; /* the model's side, the archive's, and the state before the last call */
 static const char *part = "";
-static uint64_t calls, checks, differences;
+static uint64_t calls, checks, differences, collections;
 static uint64_t met[10]; /* answers by refusal, 0 for none: a run that never meets one tests less than it seems */
 static size_t smallest = (size_t)-1; /* heap words and roots of the smallest case shown so far */
 static int through_struct;
@@ -63,6 +63,7 @@ struct said judge_call(const struct call *c) {
   copy_lent(&before, &ours);
   model = model_call(&ours.s, c);
   met[model.refusal]++;
+  collections += c->op != FRESH && ours.s.half != before.s.half;
   archive = archive_alone(&theirs.s, c);
   checks++;
   if (said_equal(model, archive) && states_equal(&ours.s, &theirs.s) && guards_hold(&theirs)) return model;
@@ -80,7 +81,7 @@ void expect(int ok, const char *wrong) {
 
 static void show_met(void) {
   int i;
-  printf("check-c: done %" PRIu64 ", refusals 1 to 9:", met[0]);
+  printf("check-c: %" PRIu64 " collections; done %" PRIu64 ", refusals 1 to 9:", collections, met[0]);
   for (i = 1; i < 10; i++) {
     printf(" %" PRIu64, met[i]);
     expect(met[i] > 0, "a refusal was never met");

@@ -21,6 +21,7 @@ int main(int argc, char **argv) {
   bit_flips();
   sessions((uint32_t)(calls / 20000) + 2);
   random_trials(calls);
+  long_sessions(calls / 10);
   largest_heaps((uint32_t)(calls / 50000) + 1);
   return judge_verdict(seed);
 }

@@ -199,7 +199,7 @@ static uint32_t copy(struct state *s, size_t from, size_t to) {
   return 0;
 }
 
-/* The refusals that every field call shares; otherwise where the field stands. `other` is a second root, or `object`. */
+/* The refusals that every field call shares; else where the field stands. `other` is a second root, or `object`. */
 static uint32_t find_field(const struct state *s, size_t object, size_t other, size_t field, int raw, uint32_t *at) {
   uint32_t header;
   if (bad_shape(s)) return SHAPE;

@@ -1,7 +1,7 @@
 /* A model of the heap in plain C, written from document 01 and from nothing else: what each call must answer and leave.
  *
- * It is slow and simple on purpose. A collection lists the reachable objects first and writes the new half afterwards, so
- * that it shares no step with a collector that works in place.
+ * It is slow and simple on purpose. A collection lists the reachable objects first and writes the new half afterwards,
+ * so that it shares no step with a collector that works in place.
  */
 #ifndef MODEL_H
 #define MODEL_H

@@ -10,6 +10,7 @@ void limits(void);                        /* limits.c: each at its value, one be
 void bit_flips(void);                     /* flips.c: every single bit of P5 */
 void sessions(uint32_t lists);            /* sessions.c: two sizes, the graph, a collection between any two calls */
 void random_trials(uint64_t calls);       /* trials.c: sound and damaged heaps, all calls */
+void long_sessions(uint64_t calls);       /* trials.c: one heap for thousands of calls */
 void largest_heaps(uint32_t trials);      /* trials.c: S = 1,048,576 */
 
 #endif

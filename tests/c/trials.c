@@ -57,6 +57,22 @@ void random_trials(uint64_t calls) {
   while (judge_calls() < end) trial();
 }
 
+/* One heap for thousands of calls: no fresh, so that it stays sound and grows old. */
+static void long_session(uint32_t calls) {
+  judge_lend(2 * (size_t)(20 + below(200)) + 1, 3 + below(6));
+  while (calls-- > 0) {
+    struct call c = random_call(judged());
+    if (c.op != FRESH) judge_call(&c);
+  }
+  expect(model_sound(judged()), "a long session ends with an unsound heap");
+}
+
+void long_sessions(uint64_t calls) {
+  uint64_t end = judge_calls() + calls;
+  judge_part("long sessions");
+  while (judge_calls() < end) long_session(10000);
+}
+
 /* A large heap is slow to compare, so the calls are few and each one counts. */
 static void large_trial(void) {
   static const enum op ops[] = {CHECK, COLLECT, CHECK, NEW_TRACED, COLLECT};
