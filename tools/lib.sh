@@ -4,7 +4,16 @@ set -eu
 cd "$(dirname "$0")/.."
 version=$(sed -n 's/^#define PHACHUNOI_VERSION_\(MAJOR\|MINOR\|PATCH\) //p' include/phachunoi.h | paste -sd.)
 
-rt staticlib phachunoi
+command -v rt >/dev/null 2>&1 || {
+    echo "tools/lib.sh: 'rt' is not in PATH: the archive is made by the kit's prover" >&2
+    exit 2
+}
+mkdir -p target
+rt staticlib phachunoi >target/lib.out 2>&1 || {
+    cat target/lib.out
+    exit 1
+}
+grep '^logic=proved' target/lib.out
 mkdir -p dist/lib/pkgconfig dist/include
 cp target/staticlib/libphachunoi.a dist/lib/
 cp include/phachunoi.h dist/include/

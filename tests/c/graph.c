@@ -1,4 +1,4 @@
-/* The object graph: nodes in a row, never freed. A value is null, a number or a node; no word, address or half is here. */
+/* The object graph: nodes in a row, never freed. A value is null, a number or a node; no word, no address. */
 #include "graph.h"
 
 #include <stdlib.h>
