@@ -13,13 +13,15 @@ die() {
     exit 2
 }
 
-# The command $1, or the Debian package $2 by name where this can be done.
+there() { [ -e "$1" ] || command -v "$1" >/dev/null 2>&1; }
+
+# The command or file $1; if it is missing, the Debian package $2 is installed by name where that can be done.
 need() {
-    command -v "$1" >/dev/null 2>&1 && return
-    if [ "$(id -u)" = 0 ] && command -v apt-get >/dev/null 2>&1; then
+    there "$1" && return
+    if [ "$(id -u)" = 0 ] && there apt-get; then
         apt-get install -y "$2" >/dev/null 2>&1 || true
     fi
-    command -v "$1" >/dev/null 2>&1 || die "'$1' is missing: install the Debian package '$2' (apt-get install $2)"
+    there "$1" || die "'$1' is missing: install the Debian package '$2' (as root: apt-get install $2)"
 }
 
 find_kit() {
@@ -35,13 +37,14 @@ find_kit() {
 
 compile_native() {
     need cc gcc
+    need /usr/include/stdio.h libc6-dev
     case " $* " in *" c++ "*) need c++ g++ && c++ "$@" ;; *) cc "$@" ;; esac
 }
 
 # The C library's headers are those of the machine: the parts used here are the same on both.
 compile_for_x86() {
     need clang clang
-    [ -d "/usr/include/$machine-linux-gnu" ] || die "no C headers: install the Debian package 'libc6-dev' (apt-get install libc6-dev)"
+    need "/usr/include/$machine-linux-gnu" libc6-dev
     clang -target x86_64-linux-gnu -fPIE -idirafter "/usr/include/$machine-linux-gnu" "$@"
 }
 

@@ -13,7 +13,10 @@ rt staticlib phachunoi >target/lib.out 2>&1 || {
     cat target/lib.out
     exit 1
 }
-grep '^logic=proved' target/lib.out
+grep '^logic=proved' target/lib.out || {
+    echo "tools/lib.sh: the prover does not say that the crate is proved: see target/lib.out" >&2
+    exit 1
+}
 mkdir -p dist/lib/pkgconfig dist/include
 cp target/staticlib/libphachunoi.a dist/lib/
 cp include/phachunoi.h dist/include/

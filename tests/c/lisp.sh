@@ -42,9 +42,30 @@ program() {
     run "$1" "$3" 3 "no room"
 }
 
+# One line of Lisp that must end in the fault $1, with a sound heap.
+fault() {
+    echo "$2" >target/c/fault.lisp
+    tools/cc.sh run "$lisp" 4000 target/c/fault.lisp >$printed 2>$said
+    status=$?
+    [ $status -eq 1 ] || complain "$2: exit status $status, not 1"
+    grep -q "^lisp: $1, .* heap sound\$" $said || complain "$2: $(cat $said)"
+}
+
 program reverse 1500 1100
 program sieve 2300 1500
 program strings 1800 1000
 program mutual 1800 1300
 program cycles 2300 1400
+fault "wrong type" "(car 5)"
+fault "wrong type" "(string-length '(1))"
+fault "unbound name" "(print nobody)"
+fault "not a function" "(5 6)"
+fault "wrong count" "((lambda (x) x) 1 2)"
+fault "out of range" "(* 1073741823 2)"
+fault "out of range" "(vector-ref (make-vector 3 0) 3)"
+fault "bad text" "(print (1 2)"
+echo "(define (down n) (if (= n 0) 0 (+ 1 (down (- n 1))))) (down 100000)" >target/c/fault.lisp
+tools/cc.sh run "$lisp" 1048576 target/c/fault.lisp >$printed 2>$said
+grep -q "^lisp: stack full, .* heap sound\$" $said || complain "deep recursion: $(cat $said)"
+[ $wrong -ne 0 ] || echo "check-c: faults of Lisp programs are told, and leave sound heaps"
 exit $wrong

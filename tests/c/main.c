@@ -17,6 +17,7 @@ int main(int argc, char **argv) {
   random_seed(seed);
   worked_heaps();
   each_refusal();
+  struct_begin();
   limits();
   bit_flips();
   sessions((uint32_t)(calls / 20000) + 2);

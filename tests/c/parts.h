@@ -6,6 +6,7 @@
 
 void worked_heaps(void);                  /* worked.c: P1 to P10 and the Fresh cases */
 void each_refusal(void);                  /* refusals.c: each by name, by each call that can give it */
+void struct_begin(void);                  /* begin.c: the header's struct, lent and cleared */
 void limits(void);                        /* limits.c: each at its value, one below, one above */
 void bit_flips(void);                     /* flips.c: every single bit of P5 */
 void sessions(uint32_t lists);            /* sessions.c: two sizes, the graph, a collection between any two calls */
