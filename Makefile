@@ -1,5 +1,11 @@
-# `make test` is the gate. `make lib` makes what a C host links, and `make check-c` tests it.
-.PHONY: test lib check-c check-mutants
+# `make demo` shows a collection, `make test` is the gate; `make lib` makes what a C host links, `make check-c` tests it.
+.PHONY: demo test lib check-c check-mutants
+
+# `rt check` proves, builds and runs the program, on Arm too, and keeps what it wrote.
+demo:
+	@mkdir -p target
+	@rt check demo >target/demo.log 2>&1 || { cat target/demo.log >&2; exit 1; }
+	@cat target/log/demo.stdout
 
 test:
 	.ci/run

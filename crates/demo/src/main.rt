@@ -52,16 +52,52 @@ fn live_of(answer: Answer) -> u32 {
     }
 }
 
+// A number and a word, a line.
+fn line(number: usize, word: u32) {
+    show::index(Index(number));
+    show::text(b" ");
+    show::word(word);
+    show::text(b"\n");
+}
+
+// Each word from the half's first up to the free index, as far as the heap goes.
+fn words(heap: &[u32], from: usize, end: usize) {
+    let mut i = from;
+    while i < end {
+        if heap.len() <= i {
+            return;
+        }
+        line(i, heap[i]);
+        i += 1;
+    }
+}
+
+fn table(roots: &[u32]) {
+    let mut i: usize = 0;
+    while i < roots.len() {
+        show::text(b"root ");
+        line(i, roots[i]);
+        i += 1;
+    }
+}
+
+fn summary(record: Record, live: u32) {
+    show::record(record);
+    show::text(b" live ");
+    show::number(live);
+    show::text(b"\n");
+}
+
 fn main() {
-    let mut words = [0u32; 17];
-    let mut table = [0u32; 2];
-    let heap: &mut [u32] = &mut words;
-    let roots: &mut [u32] = &mut table;
+    let mut lent = [0u32; 17];
+    let mut named = [0u32; 2];
+    let heap: &mut [u32] = &mut lent;
+    let roots: &mut [u32] = &mut named;
     let start = build(heap, roots);
     let done = collect(heap, roots, start);
     let answer = done.answer;
     let after = done.record;
-    show::collected(after, live_of(answer));
-    show::words(heap, 9, after.free.0);
-    show::roots(roots);
+    summary(after, live_of(answer));
+    words(heap, 9, after.free.0);
+    table(roots);
 }

@@ -1,49 +1,65 @@
-// Heaps as text on standard output: the record, used words and roots, a line each.
+// Records, answers and words as text on standard output.
 use model::Half;
+use model::Index;
 use model::Record;
+use model::Told;
 
-fn line(number: usize, word: u32) {
-    io::print_decimal(1, number as u64);
-    io::write_all(1, b" ");
-    io::print_hex(1, word as u64, 8);
-    io::write_all(1, b"\n");
+pub fn text(text: &[u8]) {
+    io::write_all(1, text);
 }
 
-// "half B free 13 live 4": the current half, the free index and the live words.
-pub fn collected(record: Record, live: u32) {
+pub fn number(number: u32) {
+    io::print_decimal(1, number as u64);
+}
+
+pub fn index(index: Index) {
+    io::print_decimal(1, index.0 as u64);
+}
+
+pub fn word(word: u32) {
+    io::print_hex(1, word as u64, 8);
+}
+
+// A negative integer is -(below + 1), and `below` fits where its sign reversed might not.
+pub fn integer(value: i64) {
+    if value < 0 {
+        let below = (-1 - value) as u64;
+        text(b"-");
+        io::print_decimal(1, below + 1);
+        return;
+    }
+    io::print_decimal(1, value as u64);
+}
+
+// "half B free 13"
+pub fn record(record: Record) {
     let half = record.half;
     match half {
         Half::A => {
-            io::write_all(1, b"half A free ");
+            text(b"half A free ");
         }
         Half::B => {
-            io::write_all(1, b"half B free ");
+            text(b"half B free ");
         }
     }
-    io::print_decimal(1, record.free.0 as u64);
-    io::write_all(1, b" live ");
-    io::print_decimal(1, live as u64);
-    io::write_all(1, b"\n");
+    index(record.free);
 }
 
-// Index and word of each word from `from` up to `end`, as far as the heap goes.
-pub fn words(heap: &[u32], from: usize, end: usize) {
-    let mut i = from;
-    while i < end {
-        if heap.len() <= i {
-            return;
-        }
-        line(i, heap[i]);
-        i += 1;
-    }
+// Refusal, what the root holds, value: "0/1/-1" is the integer -1.
+pub fn told(told: Told) {
+    number(told.refusal);
+    text(b"/");
+    number(told.holds);
+    text(b"/");
+    integer(told.value);
 }
 
-// Number and word of each root.
-pub fn roots(roots: &[u32]) {
+// Each word behind a space.
+pub fn words(words: &[u32]) {
     let mut i: usize = 0;
-    while i < roots.len() {
-        io::write_all(1, b"root ");
-        line(i, roots[i]);
+    while i < words.len() {
+        text(b" ");
+        word(words[i]);
         i += 1;
     }
 }
