@@ -71,10 +71,10 @@ static enum fault eval_arguments(struct lisp *l, slot forms, slot env) {
   TRY(push(l, &head));
   TRY(push(l, &tail));
   while (type_of(l, forms) == PAIR) {
-    TRY(get(l, forms, CAR, value));
+    TRY(car(l, forms, value));
     TRY(eval(l, value, env, value));
     TRY(append(l, value, head, tail));
-    TRY(get(l, forms, CDR, forms));
+    TRY(cdr(l, forms, forms));
   }
   TRY(copy(l, head, forms));
   pop_to(l, mark);
@@ -91,11 +91,11 @@ static enum fault bind_all(struct lisp *l, slot closure, slot arguments, slot en
   TRY(get(l, closure, CLOSURE_PARAMETERS, names));
   while (type_of(l, names) == PAIR) {
     if (type_of(l, arguments) != PAIR) return WRONG_COUNT;
-    TRY(get(l, names, CAR, name));
-    TRY(get(l, arguments, CAR, value));
+    TRY(car(l, names, name));
+    TRY(car(l, arguments, value));
     TRY(bind(l, name, value, env));
-    TRY(get(l, arguments, CDR, arguments));
-    TRY(get(l, names, CDR, names));
+    TRY(cdr(l, arguments, arguments));
+    TRY(cdr(l, names, names));
   }
   if (type_of(l, arguments) != NIL) return WRONG_COUNT;
   pop_to(l, mark);
@@ -109,8 +109,8 @@ enum fault sequence(struct lisp *l, slot form, slot env, slot to, int *again) {
   TRY(push(l, &rest));
   TRY(push(l, &first));
   for (;;) {
-    TRY(get(l, form, CDR, rest));
-    TRY(get(l, form, CAR, first));
+    TRY(cdr(l, form, rest));
+    TRY(car(l, form, first));
     if (type_of(l, rest) != PAIR) break;
     TRY(eval(l, first, env, to));
     TRY(copy(l, rest, form));
@@ -135,9 +135,9 @@ static enum fault eval_call(struct lisp *l, slot form, slot env, slot to, int *a
   *again = 0;
   TRY(push(l, &head));
   TRY(push(l, &number));
-  TRY(get(l, form, CAR, head));
+  TRY(car(l, form, head));
   TRY(eval(l, head, env, head));
-  TRY(get(l, form, CDR, form));
+  TRY(cdr(l, form, form));
   type = type_of(l, head);
   if (type != CLOSURE && type != PRIMITIVE && type != SPECIAL) return NOT_A_FUNCTION;
   if (type == CLOSURE) {

@@ -71,6 +71,8 @@ int same(struct lisp *l, slot one, slot other);
 
 enum fault make(struct lisp *l, enum type type, size_t fields, slot to); /* fields are null */
 enum fault make_pair(struct lisp *l, slot car, slot cdr, slot to);
+enum fault car(struct lisp *l, slot pair, slot to); /* WRONG_TYPE unless it is a pair */
+enum fault cdr(struct lisp *l, slot pair, slot to);
 enum fault append(struct lisp *l, slot value, slot head, slot tail); /* to a list under construction */
 
 enum fault make_string(struct lisp *l, size_t length, slot to); /* bytes are 0 */

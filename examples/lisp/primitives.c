@@ -12,15 +12,9 @@ static enum fault truth(struct lisp *l, int yes, slot to) { return yes ? copy(l,
 
 static enum fault do_cons(struct lisp *l, slot a, slot to) { return make_pair(l, a, a + 1, to); }
 
-static enum fault do_car(struct lisp *l, slot a, slot to) {
-  TRY(want(l, a, PAIR));
-  return get(l, a, CAR, to);
-}
+static enum fault do_car(struct lisp *l, slot a, slot to) { return car(l, a, to); }
 
-static enum fault do_cdr(struct lisp *l, slot a, slot to) {
-  TRY(want(l, a, PAIR));
-  return get(l, a, CDR, to);
-}
+static enum fault do_cdr(struct lisp *l, slot a, slot to) { return cdr(l, a, to); }
 
 static enum fault do_set_car(struct lisp *l, slot a, slot to) {
   TRY(want(l, a, PAIR));
@@ -227,8 +221,8 @@ static enum fault spread(struct lisp *l, slot arguments, int count, slot a) {
   int i;
   for (i = 0; i < count; i++) {
     if (type_of(l, arguments) != PAIR) return WRONG_COUNT;
-    TRY(get(l, arguments, CAR, a + (slot)i));
-    TRY(get(l, arguments, CDR, arguments));
+    TRY(car(l, arguments, a + (slot)i));
+    TRY(cdr(l, arguments, arguments));
   }
   return type_of(l, arguments) == NIL ? FINE : WRONG_COUNT;
 }

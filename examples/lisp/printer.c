@@ -25,10 +25,10 @@ static enum fault print_list(struct lisp *l, slot s, int quoted) {
   TRY(copy(l, s, rest));
   while (type_of(l, rest) == PAIR) {
     fputs(between, stdout);
-    TRY(get(l, rest, CAR, value));
+    TRY(car(l, rest, value));
     TRY(print_value(l, value, quoted));
     between = " ";
-    TRY(get(l, rest, CDR, rest));
+    TRY(cdr(l, rest, rest));
   }
   if (type_of(l, rest) != NIL) {
     fputs(" . ", stdout);

@@ -8,8 +8,8 @@ typedef enum fault special(struct lisp *l, slot form, slot env, slot to, int *ag
 /* The argument number i of a form, unevaluated. */
 static enum fault nth(struct lisp *l, slot form, int i, slot to) {
   TRY(copy(l, form, to));
-  while (i-- > 0) TRY(get(l, to, CDR, to));
-  return get(l, to, CAR, to);
+  while (i-- > 0) TRY(cdr(l, to, to));
+  return car(l, to, to);
 }
 
 static enum fault form_quote(struct lisp *l, slot form, slot env, slot to, int *again) {
@@ -24,12 +24,12 @@ static enum fault form_if(struct lisp *l, slot form, slot env, slot to, int *aga
   TRY(push(l, &test));
   TRY(nth(l, form, 0, test));
   TRY(eval(l, test, env, test));
-  TRY(get(l, form, CDR, form));
-  if (type_of(l, test) == NIL) TRY(get(l, form, CDR, form));
+  TRY(cdr(l, form, form));
+  if (type_of(l, test) == NIL) TRY(cdr(l, form, form));
   pop_to(l, mark);
   if (type_of(l, form) == NIL) return set_nil(l, to);
   *again = 1;
-  return get(l, form, CAR, form);
+  return car(l, form, form);
 }
 
 static enum fault make_closure(struct lisp *l, slot parameters, slot body, slot env, slot to) {
@@ -49,8 +49,8 @@ static enum fault form_lambda(struct lisp *l, slot form, slot env, slot to, int 
   (void)again;
   TRY(push(l, &parameters));
   TRY(push(l, &body));
-  TRY(get(l, form, CAR, parameters));
-  TRY(get(l, form, CDR, body));
+  TRY(car(l, form, parameters));
+  TRY(cdr(l, form, body));
   TRY(make_closure(l, parameters, body, env, to));
   pop_to(l, mark);
   return FINE;
@@ -61,14 +61,14 @@ static enum fault form_define(struct lisp *l, slot form, slot env, slot to, int 
   slot mark = height(l), target, rest;
   TRY(push(l, &target));
   TRY(push(l, &rest));
-  TRY(get(l, form, CAR, target));
-  TRY(get(l, form, CDR, rest));
+  TRY(car(l, form, target));
+  TRY(cdr(l, form, rest));
   if (type_of(l, target) == PAIR) {
-    TRY(get(l, target, CDR, to));
+    TRY(cdr(l, target, to));
     TRY(make_closure(l, to, rest, env, to));
-    TRY(get(l, target, CAR, target));
+    TRY(car(l, target, target));
   } else {
-    TRY(get(l, rest, CAR, rest));
+    TRY(car(l, rest, rest));
     TRY(eval(l, rest, env, to));
   }
   TRY(define(l, target, to));
@@ -98,17 +98,17 @@ static enum fault form_let(struct lisp *l, slot form, slot env, slot to, int *ag
   TRY(push(l, &value));
   TRY(push(l, &inner));
   TRY(copy(l, env, inner));
-  TRY(get(l, form, CAR, rest));
+  TRY(car(l, form, rest));
   while (type_of(l, rest) == PAIR) {
-    TRY(get(l, rest, CAR, name));
+    TRY(car(l, rest, name));
     TRY(nth(l, name, 1, value));
-    TRY(get(l, name, CAR, name));
+    TRY(car(l, name, name));
     TRY(eval(l, value, env, value));
     TRY(bind(l, name, value, inner));
-    TRY(get(l, rest, CDR, rest));
+    TRY(cdr(l, rest, rest));
   }
   TRY(copy(l, inner, env));
-  TRY(get(l, form, CDR, form));
+  TRY(cdr(l, form, form));
   pop_to(l, mark);
   return sequence(l, form, env, to, again);
 }
@@ -123,10 +123,10 @@ static enum fault form_while(struct lisp *l, slot form, slot env, slot to, int *
   TRY(push(l, &test));
   TRY(push(l, &body));
   for (;;) {
-    TRY(get(l, form, CAR, test));
+    TRY(car(l, form, test));
     TRY(eval(l, test, env, test));
     if (type_of(l, test) == NIL) break;
-    TRY(get(l, form, CDR, body));
+    TRY(cdr(l, form, body));
     TRY(sequence(l, body, env, to, again));
     if (*again) TRY(eval(l, body, env, to));
   }

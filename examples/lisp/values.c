@@ -110,6 +110,16 @@ enum fault make_pair(struct lisp *l, slot car, slot cdr, slot to) {
   return FINE;
 }
 
+enum fault car(struct lisp *l, slot pair, slot to) {
+  TRY(want(l, pair, PAIR));
+  return get(l, pair, CAR, to);
+}
+
+enum fault cdr(struct lisp *l, slot pair, slot to) {
+  TRY(want(l, pair, PAIR));
+  return get(l, pair, CDR, to);
+}
+
 enum fault append(struct lisp *l, slot value, slot head, slot tail) {
   slot mark = height(l), pair;
   TRY(push(l, &pair));
@@ -163,10 +173,10 @@ static enum fault find_symbol(struct lisp *l, const char *name, size_t length, s
   TRY(push(l, &string));
   TRY(copy(l, SYMBOLS, rest));
   while (type_of(l, rest) == PAIR) {
-    TRY(get(l, rest, CAR, to));
+    TRY(car(l, rest, to));
     TRY(get(l, to, SYMBOL_NAME, string));
     if (is_named(l, string, name, length)) break;
-    TRY(get(l, rest, CDR, rest));
+    TRY(cdr(l, rest, rest));
   }
   if (type_of(l, rest) != PAIR) TRY(set_nil(l, to));
   pop_to(l, mark);
