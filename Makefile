@@ -1,5 +1,5 @@
-# Two commands matter: `make demo` shows a collection, `make test` is the gate.
-.PHONY: demo test
+# `make demo` shows a collection, `make test` is the gate; `make lib` makes what a C host links, `make check-c` tests it.
+.PHONY: demo test lib check-c check-mutants
 
 # `rt check` proves, builds and runs the program, on Arm too, and keeps what it wrote.
 demo:
@@ -9,3 +9,15 @@ demo:
 
 test:
 	.ci/run
+
+# dist/: the archive, proved; the header; a pkg-config file.
+lib:
+	tools/lib.sh
+
+# The archive against a model in C, the header and the examples. SEED=n repeats a run.
+check-c: lib
+	tests/c/run.sh dist/lib/libphachunoi.a $(SEED)
+
+# The tests themselves, tested: each deliberate mistake must be caught.
+check-mutants:
+	tests/c/mutants/run.sh

@@ -1,0 +1,11 @@
+; List reversal, over and over: each round drops a whole list.
+(define (iota n rest) (if (= n 0) rest (iota (- n 1) (cons n rest))))
+(define (reverse from onto) (if (null? from) onto (reverse (cdr from) (cons (car from) onto))))
+(define (append a b) (if (null? a) b (cons (car a) (append (cdr a) b))))
+(define (times n f x) (if (= n 0) x (times (- n 1) f (f x))))
+(define numbers (iota 20 '()))
+(print numbers)
+(print (reverse numbers '()))
+(print (times 300 (lambda (x) (reverse x '())) numbers))
+(print (times 301 (lambda (x) (reverse x '())) numbers))
+(print (append '(a "b" 3) (reverse (list (cons 'x 'y) '()) '())))

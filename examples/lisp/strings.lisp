@@ -1,0 +1,18 @@
+; Strings are untraced objects, and never change once made: building one drops many.
+(define (repeat n s) (let ((all "")) (while (< 0 n) (set! all (string-append all s)) (set! n (- n 1))) all))
+(define (join list between)
+  (if (null? (cdr list)) (car list) (string-append (car list) (string-append between (join (cdr list) between)))))
+(define (count from to) (if (< to from) '() (cons (number->string from) (count (+ from 1) to))))
+(display (join (count 1 30) ", ")) (display "
+")
+(print (repeat 8 "ab-"))
+(print (string-length (repeat 100 "xyz")))
+(define line "")
+(define i 0)
+(while (< i 6000)
+  (set! line (string-append (number->string i) "."))
+  (set! i (+ i 1)))
+(print line)
+(print (string=? (repeat 12 "same") (string-append (repeat 5 "same") (repeat 7 "same"))))
+(print (string=? "hello" "hellp"))
+(print (list 'a "b" -1073741824 1073741823 '("nested" (list))))

@@ -1,0 +1,112 @@
+/* The archive's calls with their arguments in the header's order; then the same through the header's struct. */
+#include "archive.h"
+
+#include "phachunoi.h"
+
+#define LENT(s) (s)->heap, (s)->words, (s)->roots, (s)->root_count, record
+
+static struct said kept(struct state *s, phachunoi_result r) {
+  struct said said = {r.refusal, r.value, 0, 0, 0, 0};
+  s->half = r.record.half;
+  s->free = r.record.free;
+  return said;
+}
+
+static struct said collected(struct state *s, phachunoi_collected r) {
+  struct said said = {r.refusal, r.live, 0, 0, 0, 0};
+  s->half = r.record.half;
+  s->free = r.record.free;
+  return said;
+}
+
+static struct said answered(phachunoi_answer a) {
+  struct said said = {a.refusal, a.value, 0, 0, 0, 0};
+  return said;
+}
+
+static struct said seen(phachunoi_seen a) {
+  struct said said = {a.refusal, 0, a.kind, a.integer, a.count, 0};
+  return said;
+}
+
+static struct said opened(phachunoi_window a) {
+  struct said said = {a.refusal, 0, 0, 0, a.count, a.first};
+  return said;
+}
+
+static phachunoi_window window_of(const struct call *c) {
+  phachunoi_window window = {c->window[0], c->window[1], c->window[2]};
+  return window;
+}
+
+static struct said plain_call(struct state *s, const struct call *c) {
+  struct said nothing = {0, 0, 0, 0, 0, 0};
+  phachunoi_record record = {s->half, s->free};
+  switch (c->op) {
+  case FRESH: return kept(s, phachunoi_fresh(s->heap, s->words, record));
+  case CHECK: return kept(s, phachunoi_check(LENT(s)));
+  case COLLECT: return collected(s, phachunoi_collect(LENT(s)));
+  case NEW_TRACED: return kept(s, phachunoi_allocate_traced(LENT(s), c->b, c->a));
+  case NEW_UNTRACED: return kept(s, phachunoi_allocate_untraced(LENT(s), c->b, c->a));
+  case SET_INTEGER: return kept(s, phachunoi_set_integer(LENT(s), c->a, c->integer));
+  case SET_NULL: return kept(s, phachunoi_set_null(LENT(s), c->a));
+  case COPY: return kept(s, phachunoi_copy(LENT(s), c->a, c->c));
+  case LOAD: return kept(s, phachunoi_load(LENT(s), c->a, c->b, c->c));
+  case STORE: return kept(s, phachunoi_store(LENT(s), c->a, c->b, c->c));
+  case RAW_READ: return answered(phachunoi_raw_read(LENT(s), c->a, c->b));
+  case RAW_WRITE: return kept(s, phachunoi_raw_write(LENT(s), c->a, c->b, c->number));
+  case SAME: return answered(phachunoi_same(LENT(s), c->a, c->c));
+  case INSPECT: return seen(phachunoi_inspect(LENT(s), c->a));
+  case OPEN: return opened(phachunoi_open(LENT(s), c->a));
+  case WORD: return answered(phachunoi_word(s->heap, s->words, window_of(c), c->b));
+  case OPS: break;
+  }
+  return nothing;
+}
+
+/* The calls that only answer a refusal. */
+static uint32_t struct_refusal(phachunoi_heap *h, const struct call *c) {
+  switch (c->op) {
+  case NEW_TRACED: return phachunoi_heap_allocate_traced(h, c->b, c->a);
+  case NEW_UNTRACED: return phachunoi_heap_allocate_untraced(h, c->b, c->a);
+  case SET_INTEGER: return phachunoi_heap_set_integer(h, c->a, c->integer);
+  case SET_NULL: return phachunoi_heap_set_null(h, c->a);
+  case COPY: return phachunoi_heap_copy(h, c->a, c->c);
+  case LOAD: return phachunoi_heap_load(h, c->a, c->b, c->c);
+  case STORE: return phachunoi_heap_store(h, c->a, c->b, c->c);
+  default: return phachunoi_heap_raw_write(h, c->a, c->b, c->number);
+  }
+}
+
+static struct said struct_answer(phachunoi_heap *h, const struct call *c) {
+  struct said said = {0, 77, 0, 0, 0, 0}; /* 77: an answer that is not written shows */
+  int yes = 77;
+  switch (c->op) {
+  case CHECK: said.refusal = phachunoi_heap_check(h, &yes); break;
+  case SAME: said.refusal = phachunoi_heap_same(h, c->a, c->c, &yes); break;
+  case COLLECT: return said.refusal = phachunoi_heap_collect(h, &said.value), said;
+  case RAW_READ: return said.refusal = phachunoi_heap_raw_read(h, c->a, c->b, &said.value), said;
+  case WORD: return said.refusal = phachunoi_heap_word(h, window_of(c), c->b, &said.value), said;
+  case INSPECT: return seen(phachunoi_heap_inspect(h, c->a));
+  case OPEN: return opened(phachunoi_heap_open(h, c->a));
+  default: return said.refusal = struct_refusal(h, c), said.value = 0, said;
+  }
+  said.value = (uint32_t)yes;
+  return said;
+}
+
+struct said archive_call(struct state *s, const struct call *c, int through_struct) {
+  struct said said;
+  phachunoi_heap h;
+  if (!through_struct || c->op == FRESH) return plain_call(s, c); /* the struct's `begin` clears the roots too */
+  h.words = s->heap;
+  h.word_count = s->words;
+  h.roots = s->roots;
+  h.root_count = s->root_count;
+  h.record.half = s->half;
+  h.record.free = s->free;
+  said = struct_answer(&h, c);
+  s->half = h.record.half;
+  s->free = h.record.free;
+  return said;
+}

@@ -1,0 +1,11 @@
+/* Calls at random, with arguments that are mostly good for the state they meet, and bad in every way now and then. */
+#ifndef CALLS_H
+#define CALLS_H
+
+#include "model.h"
+
+struct call call_of(enum op op, size_t a, size_t b, size_t c); /* plain arguments; numbers 0 */
+struct call set_integer_of(size_t to, int64_t value);
+struct call random_call(const struct state *s);
+
+#endif

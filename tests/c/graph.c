@@ -1,0 +1,151 @@
+/* The object graph: nodes in a row, never freed. A value is null, a number or a node; no word, no address. */
+#include "graph.h"
+
+#include <stdlib.h>
+#include <string.h>
+
+enum { NIL, NUMBER, NODE }; /* what a value is */
+
+struct value {
+  int what;
+  int64_t is; /* the integer, or the node's number */
+};
+
+struct node {
+  int untraced;
+  uint32_t count;
+  size_t first; /* its fields are cells[first] on; a raw field is a cell's `is` */
+};
+
+#define NODES 20000
+#define CELLS 200000
+
+static struct value roots[64], cells[CELLS];
+static struct node nodes[NODES];
+static uint8_t seen[NODES];
+static int64_t queue[NODES];
+static size_t root_count, node_count, cell_count;
+static uint32_t limit;
+
+void graph_start(size_t count, uint32_t half) {
+  memset(roots, 0, sizeof roots);
+  root_count = count;
+  node_count = cell_count = 0;
+  limit = half;
+}
+
+/* ---- live words ---- */
+
+static size_t queued;
+
+static void reach(struct value v) {
+  if (v.what != NODE || seen[v.is]) return;
+  seen[v.is] = 1;
+  queue[queued++] = v.is;
+}
+
+static void reach_fields(const struct node *n) {
+  uint32_t k;
+  if (n->untraced) return;
+  for (k = 0; k < n->count; k++) reach(cells[n->first + k]);
+}
+
+uint32_t graph_live(void) {
+  uint32_t live = 0;
+  size_t i;
+  memset(seen, 0, node_count);
+  queued = 0;
+  for (i = 0; i < root_count; i++) reach(roots[i]);
+  for (i = 0; i < queued; i++) {
+    live += nodes[queue[i]].count + 1;
+    reach_fields(&nodes[queue[i]]);
+  }
+  return live;
+}
+
+/* ---- the calls ---- */
+
+static uint32_t new_node(size_t to, size_t n, int untraced) {
+  if (to >= root_count) return 2;
+  if (n > 1073741823) return 3;
+  if (limit != GRAPH_NO_LIMIT && (uint64_t)graph_live() + n + 1 > limit) return 9;
+  if (node_count == NODES || cell_count + n > CELLS) abort(); /* a list too long for this file */
+  nodes[node_count].untraced = untraced;
+  nodes[node_count].count = (uint32_t)n;
+  nodes[node_count].first = cell_count;
+  memset(cells + cell_count, 0, n * sizeof cells[0]);
+  cell_count += n;
+  roots[to].what = NODE;
+  roots[to].is = (int64_t)node_count++;
+  return 0;
+}
+
+static uint32_t field_call(const struct call *c, uint32_t *value) {
+  int raw = c->op == RAW_READ || c->op == RAW_WRITE;
+  const struct node *n;
+  struct value *cell;
+  if (c->a >= root_count || (!raw && c->c >= root_count)) return 2;
+  if (roots[c->a].what != NODE) return 5;
+  n = &nodes[roots[c->a].is];
+  if (n->untraced != raw) return 6;
+  if (c->b >= n->count) return 7;
+  cell = &cells[n->first + c->b];
+  if (c->op == LOAD) roots[c->c] = *cell;
+  if (c->op == STORE) *cell = roots[c->c];
+  if (c->op == RAW_READ) *value = (uint32_t)cell->is;
+  if (c->op == RAW_WRITE) cell->is = c->number;
+  return 0;
+}
+
+static uint32_t set_integer(size_t to, int64_t v) {
+  if (to >= root_count) return 2;
+  if (v < -1073741824 || v > 1073741823) return 4;
+  roots[to].what = NUMBER;
+  roots[to].is = v;
+  return 0;
+}
+
+static uint32_t set_null(size_t to) {
+  if (to >= root_count) return 2;
+  roots[to].what = NIL;
+  roots[to].is = 0;
+  return 0;
+}
+
+static uint32_t two_roots(const struct call *c, uint32_t *value) {
+  if (c->a >= root_count || c->c >= root_count) return 2;
+  if (c->op == COPY) roots[c->c] = roots[c->a];
+  else *value = roots[c->a].what == roots[c->c].what && roots[c->a].is == roots[c->c].is;
+  return 0;
+}
+
+struct said graph_holds(size_t root) {
+  struct said r = {0, 0, 0, 0, 0, 0};
+  if (root >= root_count) return r.refusal = 2, r;
+  if (roots[root].what == NUMBER) return r.kind = 1, r.integer = (int32_t)roots[root].is, r;
+  if (roots[root].what == NIL) return r;
+  r.kind = nodes[roots[root].is].untraced ? 3 : 2;
+  r.count = nodes[roots[root].is].count;
+  return r;
+}
+
+struct said graph_call(const struct call *c) {
+  struct said r = {0, 0, 0, 0, 0, 0};
+  switch (c->op) {
+  case CHECK: r.value = 1; break;
+  case COLLECT: r.value = graph_live(); break;
+  case NEW_TRACED:
+  case NEW_UNTRACED: r.refusal = new_node(c->a, c->b, c->op == NEW_UNTRACED); break;
+  case SET_INTEGER: r.refusal = set_integer(c->a, c->integer); break;
+  case SET_NULL: r.refusal = set_null(c->a); break;
+  case COPY:
+  case SAME: r.refusal = two_roots(c, &r.value); break;
+  case LOAD:
+  case STORE:
+  case RAW_READ:
+  case RAW_WRITE: r.refusal = field_call(c, &r.value); break;
+  case INSPECT: return graph_holds(c->a);
+  default: abort(); /* fresh and the window are no session calls */
+  }
+  return r;
+}

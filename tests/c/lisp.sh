@@ -1,0 +1,71 @@
+#!/bin/sh
+# The interpreter's programs at three heap sizes: equal output, hundreds of collections at the smallest, a sound heap at
+# the end of each; and "no room", said as such, in a heap that is too small.
+#   tests/c/lisp.sh LISP
+set -u
+cd "$(dirname "$0")/../.."
+lisp=$1
+said=target/c/lisp.said
+printed=target/c/lisp.printed
+wrong=0
+
+complain() {
+    echo "check-c: $*"
+    wrong=1
+}
+
+# Runs program $1 in halves of $2 words; the exit status must be $3 and the last message must have $4.
+run() {
+    tools/cc.sh run "$lisp" "$2" "examples/lisp/$1.lisp" >$printed 2>$said
+    status=$?
+    [ $status -eq "$3" ] || complain "$1 at $2: exit status $status, not $3: $(cat $said)"
+    grep -q "^lisp: $4, .* heap sound\$" $said || complain "$1 at $2: $(cat $said)"
+}
+
+same_output() {
+    cmp -s $printed "examples/lisp/$1.out" || complain "$1 at $2 prints something else than $1.out"
+}
+
+many_collections() {
+    count=$(sed -n 's/^lisp: fine, \([0-9]*\) collections.*/\1/p' $said)
+    [ "${count:-0}" -ge 200 ] || complain "$1 at $2: only ${count:-0} collections"
+    echo "check-c: $1.lisp: equal output at three sizes, ${count:-0} collections at $2 words a half"
+}
+
+# A program, its smallest heap and one that is too small.
+program() {
+    for size in 1048576 20000 "$2"; do
+        run "$1" $size 0 fine
+        same_output "$1" $size
+    done
+    many_collections "$1" "$2"
+    run "$1" "$3" 3 "no room"
+}
+
+# One line of Lisp that must end in the fault $1, with a sound heap.
+fault() {
+    echo "$2" >target/c/fault.lisp
+    tools/cc.sh run "$lisp" 4000 target/c/fault.lisp >$printed 2>$said
+    status=$?
+    [ $status -eq 1 ] || complain "$2: exit status $status, not 1"
+    grep -q "^lisp: $1, .* heap sound\$" $said || complain "$2: $(cat $said)"
+}
+
+program reverse 1500 1100
+program sieve 2300 1500
+program strings 1800 1000
+program mutual 1800 1300
+program cycles 2300 1400
+fault "wrong type" "(car 5)"
+fault "wrong type" "(string-length '(1))"
+fault "unbound name" "(print nobody)"
+fault "not a function" "(5 6)"
+fault "wrong count" "((lambda (x) x) 1 2)"
+fault "out of range" "(* 1073741823 2)"
+fault "out of range" "(vector-ref (make-vector 3 0) 3)"
+fault "bad text" "(print (1 2)"
+echo "(define (down n) (if (= n 0) 0 (+ 1 (down (- n 1))))) (down 100000)" >target/c/fault.lisp
+tools/cc.sh run "$lisp" 1048576 target/c/fault.lisp >$printed 2>$said
+grep -q "^lisp: stack full, .* heap sound\$" $said || complain "deep recursion: $(cat $said)"
+[ $wrong -ne 0 ] || echo "check-c: faults of Lisp programs are told, and leave sound heaps"
+exit $wrong

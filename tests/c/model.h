@@ -1,0 +1,49 @@
+/* A model of the heap in plain C, written from document 01 and from nothing else: what each call must answer and leave.
+ *
+ * It is slow and simple on purpose. A collection lists the reachable objects first and writes the new half afterwards,
+ * so that it shares no step with a collector that works in place.
+ */
+#ifndef MODEL_H
+#define MODEL_H
+
+#include <stddef.h>
+#include <stdint.h>
+
+/* What a call is lent, and what it leaves. */
+struct state {
+  uint32_t *heap;
+  size_t words;
+  uint32_t *roots;
+  size_t root_count;
+  uint32_t half, free;
+};
+
+enum op {
+  FRESH, CHECK, COLLECT, NEW_TRACED, NEW_UNTRACED, SET_INTEGER, SET_NULL, COPY, LOAD, STORE, RAW_READ, RAW_WRITE,
+  SAME, INSPECT, OPEN, WORD, OPS
+};
+
+/* A call with its arguments; each op reads those that it needs.
+   a: the root written, or the object's root, or the root copied. b: the field number or the count. c: a second root. */
+struct call {
+  enum op op;
+  size_t a, b, c;
+  int64_t integer;
+  uint32_t number;
+  uint32_t window[3]; /* refusal, first, count */
+};
+
+/* Everything that a call can answer; what it does not name is 0. */
+struct said {
+  uint32_t refusal;
+  uint32_t value; /* sound, live, the word, yes */
+  uint32_t kind;
+  int32_t integer;
+  uint32_t count;
+  uint32_t first;
+};
+
+struct said model_call(struct state *s, const struct call *c);
+int model_sound(const struct state *s);
+
+#endif

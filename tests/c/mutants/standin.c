@@ -1,0 +1,337 @@
+/* A stand-in for the archive: the header's calls in plain C, with an in-place collector. It judges the tests.
+ *
+ * With MUTANT 0 it is right, and the tests must find no difference. Each other number is one deliberate mistake, told
+ * where it is made; the tests must find it. MUTANTS below is how many there are.
+ */
+#include "phachunoi.h"
+
+#ifndef MUTANT
+#define MUTANT 0
+#endif
+#define BUG(number) (MUTANT == (number))
+/* MUTANTS 26 */
+
+typedef struct phachunoi_record record_t;
+struct view { /* what a call was lent */
+  uint32_t *heap;
+  size_t words;
+  uint32_t *roots;
+  size_t root_count;
+  record_t record;
+};
+
+#define VIEW struct view v = {(uint32_t *)heap, words, (uint32_t *)roots, root_count, record}
+#define HEADER_COUNT(h) (((h) & 0x7fffffffu) >> 1)
+
+static size_t half_of(const struct view *v) { return v->words / 2; }
+static size_t first_of(const struct view *v, uint32_t half) { return half ? half_of(v) + 1 : 1; }
+static size_t end_of(const struct view *v) { return first_of(v, v->record.half) + half_of(v); }
+
+static int length_ok(size_t words) {
+  size_t longest = BUG(1) ? 2097151 : 2097153; /* the largest heap is refused */
+  return words % 2 == 1 && words >= 3 && words <= longest;
+}
+
+static int shape_ok(const struct view *v) {
+  size_t most = BUG(2) ? 65535 : 65536;                     /* the last root is one too many */
+  size_t end = end_of(v) - (BUG(3) && v->record.half == 1); /* an exactly full half B is refused */
+  return length_ok(v->words) && v->root_count <= most && v->record.half <= 1 &&
+         v->record.free >= first_of(v, v->record.half) && v->record.free <= end;
+}
+
+static int names(const struct view *v, uint32_t word) {
+  size_t at = word / 4;
+  if (word == 0 || word % 4 != 0 || at < first_of(v, v->record.half) || at >= v->record.free) return 0;
+  if (BUG(4)) return 1; /* any multiple of 4 in range is an object */
+  return v->heap[at] % 2 == 0 && at + HEADER_COUNT(v->heap[at]) + 1 <= v->record.free;
+}
+
+/* ---- soundness: marks the header's places in the idle half, and unmarks them ---- */
+
+static uint32_t *mark_of(const struct view *v, size_t at) {
+  return &v->heap[at - first_of(v, v->record.half) + first_of(v, 1 - v->record.half)];
+}
+
+static int zero(const struct view *v, size_t from, size_t to) {
+  size_t i;
+  for (i = from; i < to; i++)
+    if (v->heap[i]) return 0;
+  return 1;
+}
+
+static int tile(const struct view *v) {
+  size_t at = first_of(v, v->record.half);
+  while (at < v->record.free && v->heap[at] % 2 == 0) {
+    *mark_of(v, at) = 1;
+    at += HEADER_COUNT(v->heap[at]) + 1;
+  }
+  return at == v->record.free;
+}
+
+static int good(const struct view *v, uint32_t word) {
+  if (word % 2 == 1 || word == 0) return 1;
+  if (word % 4 != 0 || word / 4 < first_of(v, v->record.half) || word / 4 >= v->record.free) return 0;
+  return BUG(5) || *mark_of(v, word / 4); /* an address inside an object is let through */
+}
+
+static int good_object(const struct view *v, size_t at) {
+  size_t k, n = HEADER_COUNT(v->heap[at]);
+  if (v->heap[at] >> 31) return 1;
+  for (k = 1; k <= n - (BUG(6) && n > 0); k++) /* the last field is not looked at */
+    if (!good(v, v->heap[at + k])) return 0;
+  return 1;
+}
+
+static int good_all(const struct view *v) {
+  size_t i;
+  for (i = 0; i < v->root_count; i++)
+    if (!good(v, v->roots[i])) return 0;
+  for (i = first_of(v, v->record.half); i < v->record.free; i += HEADER_COUNT(v->heap[i]) + 1)
+    if (!good_object(v, i)) return 0;
+  return 1;
+}
+
+static int sound(const struct view *v) {
+  size_t i, idle = first_of(v, 1 - v->record.half);
+  int ok;
+  if ((v->heap[0] && !BUG(7)) || !zero(v, idle, idle + half_of(v))) return 0; /* word 0 is not looked at */
+  if (!zero(v, v->record.free, end_of(v) - (BUG(8) && v->record.free < end_of(v)))) return 0; /* nor the last one */
+  ok = tile(v) && good_all(v);
+  if (BUG(9) && !ok) return 0; /* marks stay where the heap is not sound */
+  for (i = 0; i < half_of(v); i++) v->heap[idle + i] = 0;
+  return ok;
+}
+
+/* ---- the collector: marks a copied object by its new address with bit 0 set ---- */
+
+static uint32_t forward(const struct view *v, uint32_t word, size_t *next) {
+  size_t at = word / 4, k;
+  if (word % 2 == 1 || word == 0) return word;
+  if (BUG(10) && (at >= v->words || word % 4 != 0)) return word; /* only so that mistake 10 stays inside the heap */
+  if (v->heap[at] % 2 == 1 && !BUG(11)) return v->heap[at] - 1;  /* what is shared is copied twice */
+  if (BUG(11) && v->heap[at] % 2 == 1) return word;
+  for (k = 0; k <= HEADER_COUNT(v->heap[at]); k++) v->heap[*next + k] = v->heap[at + k];
+  v->heap[at] = (uint32_t)(4 * *next) | 1;
+  *next += k;
+  return v->heap[at] - 1;
+}
+
+static void scan_object(const struct view *v, size_t at, size_t *next) {
+  size_t k, n = HEADER_COUNT(v->heap[at]);
+  if (v->heap[at] >> 31 && !BUG(10)) return; /* raw words are followed */
+  for (k = 1; k <= n; k++) v->heap[at + k] = forward(v, v->heap[at + k], next);
+}
+
+/* The roots, then the copies in their order. `dead` is a root that does not count, or none. */
+static size_t collect(struct view *v, size_t dead) {
+  size_t i, first = first_of(v, 1 - v->record.half), next = first, old = first_of(v, v->record.half);
+  for (i = 0; i < v->root_count; i++)
+    if (i != dead) v->roots[BUG(12) ? v->root_count - 1 - i : i] = /* the last root is visited first */
+        forward(v, v->roots[BUG(12) ? v->root_count - 1 - i : i], &next);
+  for (i = first; i < next; i += HEADER_COUNT(v->heap[i]) + 1) {
+    if (BUG(13) && v->heap[i] == 0) break; /* a header of 0 ends the scan */
+    scan_object(v, i, &next);
+  }
+  for (i = 0; i < half_of(v) - BUG(14); i++) v->heap[old + i] = 0; /* the old half's last word is not cleared */
+  v->record.half = 1 - v->record.half;
+  v->record.free = (uint32_t)next;
+  return next - first;
+}
+
+/* ---- the calls ---- */
+
+static phachunoi_result result(uint32_t refusal, uint32_t value, record_t record) {
+  phachunoi_result r = {refusal, value, {0, 0}};
+  r.record = record;
+  return r;
+}
+
+uint32_t phachunoi_version(void) { return PHACHUNOI_VERSION_NUMBER; }
+
+phachunoi_result phachunoi_fresh(uint32_t *heap, size_t words, record_t record) {
+  size_t i;
+  if (!length_ok(words)) return result(1, 0, record);
+  for (i = BUG(15); i < words; i++) heap[i] = 0; /* word 0 is kept */
+  record.half = 0;
+  record.free = 1;
+  return result(0, 0, record);
+}
+
+phachunoi_result phachunoi_check(uint32_t *heap, size_t words, const uint32_t *roots, size_t root_count,
+                                 record_t record) {
+  VIEW;
+  if (!shape_ok(&v)) return result(1, 0, record);
+  return result(0, (uint32_t)sound(&v), record);
+}
+
+phachunoi_collected phachunoi_collect(uint32_t *heap, size_t words, uint32_t *roots, size_t root_count,
+                                      record_t record) {
+  VIEW;
+  phachunoi_collected c = {0, 0, {0, 0}};
+  c.record = record;
+  if (!shape_ok(&v)) return c.refusal = 1, c;
+  if (!sound(&v)) return c.refusal = 8, c;
+  c.live = (uint32_t)collect(&v, (size_t)-1);
+  c.record = v.record;
+  return c;
+}
+
+static phachunoi_result allocate(struct view *v, size_t n, size_t to, uint32_t kind) {
+  size_t k;
+  if (!shape_ok(v)) return result(1, 0, v->record);
+  if (BUG(16)) to = (uint32_t)to; /* a root number is narrowed */
+  if (BUG(17)) n = (uint32_t)n;   /* so is a count */
+  if (to >= v->root_count) return result(2, 0, v->record);
+  if (n > PHACHUNOI_MAX_FIELDS) return result(3, 0, v->record);
+  if (BUG(18) && n + 1 > half_of(v)) return result(9, 0, v->record); /* a hopeless count does not collect */
+  if (BUG(19) && !sound(v)) return result(8, 0, v->record);          /* soundness is asked for with room to spare */
+  if (v->record.free + n + 1 > end_of(v)) {
+    if (!sound(v)) return result(8, 0, v->record);
+    collect(v, BUG(20) ? to : (size_t)-1); /* the root that is written counts as dead */
+  }
+  if (v->record.free + n + 1 > end_of(v)) return result(9, 0, v->record);
+  v->heap[v->record.free] = kind << 31 | (uint32_t)(2 * n);
+  for (k = 1; k <= n && !BUG(21); k++) v->heap[v->record.free + k] = 0; /* fields are taken to be 0 already */
+  v->roots[to] = 4 * v->record.free;
+  v->record.free += (uint32_t)n + 1;
+  if (BUG(22)) v->heap[v->words] = 0; /* a word past the heap is written */
+  return result(0, 0, v->record);
+}
+
+phachunoi_result phachunoi_allocate_traced(uint32_t *heap, size_t words, uint32_t *roots, size_t root_count,
+                                           record_t record, size_t fields, size_t to) {
+  VIEW;
+  return allocate(&v, fields, to, 0);
+}
+
+phachunoi_result phachunoi_allocate_untraced(uint32_t *heap, size_t words, uint32_t *roots, size_t root_count,
+                                             record_t record, size_t fields, size_t to) {
+  VIEW;
+  return allocate(&v, fields, to, 1);
+}
+
+phachunoi_result phachunoi_set_integer(const uint32_t *heap, size_t words, uint32_t *roots, size_t root_count,
+                                       record_t record, size_t to, int64_t value) {
+  VIEW;
+  if (!shape_ok(&v)) return result(1, 0, record);
+  if (to >= root_count) return result(2, 0, record);
+  if (value < PHACHUNOI_INTEGER_MIN + BUG(23) || value > PHACHUNOI_INTEGER_MAX) return result(4, 0, record);
+  roots[to] = (uint32_t)value * 2 + 1; /* mistake 23: the least integer is refused */
+  return result(0, 0, record);
+}
+
+phachunoi_result phachunoi_set_null(const uint32_t *heap, size_t words, uint32_t *roots, size_t root_count,
+                                    record_t record, size_t to) {
+  VIEW;
+  if (!shape_ok(&v)) return result(1, 0, record);
+  if (to >= root_count) return result(2, 0, record);
+  roots[to] = 0;
+  return result(0, 0, record);
+}
+
+phachunoi_result phachunoi_copy(const uint32_t *heap, size_t words, uint32_t *roots, size_t root_count,
+                                record_t record, size_t from, size_t to) {
+  VIEW;
+  if (!shape_ok(&v)) return result(1, 0, record);
+  if (from >= root_count || to >= root_count) return result(2, 0, record);
+  roots[to] = roots[from];
+  return result(0, 0, record);
+}
+
+static uint32_t field_of(const struct view *v, size_t object, size_t other, size_t field, uint32_t kind, size_t *at) {
+  uint32_t header;
+  if (!shape_ok(v)) return 1;
+  if (object >= v->root_count || other >= v->root_count) return 2;
+  if (!names(v, v->roots[object])) return 5;
+  header = v->heap[v->roots[object] / 4];
+  if (BUG(24) && field >= HEADER_COUNT(header)) return 7; /* FIELD before KIND */
+  if (header >> 31 != kind) return 6;
+  if (field >= HEADER_COUNT(header)) return 7;
+  *at = v->roots[object] / 4 + 1 + field;
+  return 0;
+}
+
+phachunoi_result phachunoi_load(const uint32_t *heap, size_t words, uint32_t *roots, size_t root_count,
+                                record_t record, size_t object, size_t field, size_t to) {
+  VIEW;
+  size_t at;
+  uint32_t refusal = field_of(&v, object, to, field, 0, &at);
+  if (refusal == 0) roots[to] = heap[at];
+  return result(refusal, 0, record);
+}
+
+phachunoi_result phachunoi_store(uint32_t *heap, size_t words, const uint32_t *roots, size_t root_count,
+                                 record_t record, size_t object, size_t field, size_t from) {
+  VIEW;
+  size_t at;
+  uint32_t refusal = field_of(&v, object, from, field, 0, &at);
+  if (refusal == 0) heap[at] = roots[from];
+  return result(refusal, 0, record);
+}
+
+phachunoi_answer phachunoi_raw_read(const uint32_t *heap, size_t words, const uint32_t *roots, size_t root_count,
+                                    record_t record, size_t object, size_t field) {
+  VIEW;
+  size_t at;
+  phachunoi_answer a = {0, 0};
+  a.refusal = field_of(&v, object, object, field, 1, &at);
+  if (a.refusal == 0) a.value = heap[at];
+  return a;
+}
+
+phachunoi_result phachunoi_raw_write(uint32_t *heap, size_t words, const uint32_t *roots, size_t root_count,
+                                     record_t record, size_t object, size_t field, uint32_t number) {
+  VIEW;
+  size_t at;
+  uint32_t refusal = field_of(&v, object, object, field, 1, &at);
+  if (refusal == 0) heap[at] = number;
+  return result(refusal, 0, record);
+}
+
+phachunoi_answer phachunoi_same(const uint32_t *heap, size_t words, const uint32_t *roots, size_t root_count,
+                                record_t record, size_t one, size_t other) {
+  VIEW;
+  phachunoi_answer a = {0, 0};
+  if (!shape_ok(&v)) return a.refusal = 1, a;
+  if (one >= root_count || other >= root_count) return a.refusal = 2, a;
+  a.value = roots[one] == roots[other];
+  return a;
+}
+
+phachunoi_seen phachunoi_inspect(const uint32_t *heap, size_t words, const uint32_t *roots, size_t root_count,
+                                 record_t record, size_t root) {
+  VIEW;
+  phachunoi_seen a = {0, 0, 0, 0};
+  if (!shape_ok(&v)) return a.refusal = 1, a;
+  if (root >= root_count) return a.refusal = 2, a;
+  if (roots[root] == 0) return a;
+  if (roots[root] % 2 == 1) {
+    a.kind = PHACHUNOI_INTEGER;
+    a.integer = (int32_t)(roots[root] >> 1 | (BUG(25) ? 0 : roots[root] & 0x80000000u)); /* the sign is lost */
+    return a;
+  }
+  if (!names(&v, roots[root])) return a.refusal = 5, a;
+  a.kind = PHACHUNOI_TRACED + (heap[roots[root] / 4] >> 31);
+  a.count = HEADER_COUNT(heap[roots[root] / 4]);
+  return a;
+}
+
+phachunoi_window phachunoi_open(const uint32_t *heap, size_t words, const uint32_t *roots, size_t root_count,
+                                record_t record, size_t object) {
+  VIEW;
+  phachunoi_window w = {0, 0, 0};
+  if (!shape_ok(&v)) return w.refusal = 1, w;
+  if (object >= root_count) return w.refusal = 2, w;
+  if (!names(&v, roots[object])) return w.refusal = 5, w;
+  w.first = roots[object] / 4 + 1;
+  w.count = HEADER_COUNT(heap[roots[object] / 4]);
+  return w;
+}
+
+phachunoi_answer phachunoi_word(const uint32_t *heap, size_t words, phachunoi_window window, size_t field) {
+  phachunoi_answer a = {0, 0};
+  if (BUG(26)) field = (uint32_t)field; /* a field number is narrowed */
+  if (field >= window.count || window.first + field >= words) return a.refusal = 7, a;
+  a.value = heap[window.first + field];
+  return a;
+}

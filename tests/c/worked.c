@@ -1,0 +1,143 @@
+/* Document 01's worked heaps P1 to P10 and its Fresh cases: the numbers written there, and the model besides. */
+#include <string.h>
+
+#include "calls.h"
+#include "heaps.h"
+#include "judge.h"
+#include "parts.h"
+
+static struct said call(enum op op, size_t a, size_t b, size_t c) {
+  struct call made = call_of(op, a, b, c);
+  return judge_call(&made);
+}
+
+static uint32_t integer_word(int64_t v) {
+  struct call made = set_integer_of(0, v);
+  expect(judge_call(&made).refusal == 0, "an integer in range is refused");
+  return judged()->roots[0];
+}
+
+static void p1_p2(void) {
+  struct call beyond = set_integer_of(0, 1073741824);
+  judge_lend(17, 1);
+  expect(integer_word(10) == 21 && integer_word(0) == 1 && integer_word(-1) == 0xffffffffu, "P1");
+  expect(integer_word(1073741823) == 0x7fffffffu && integer_word(-1073741824) == 0x80000001u, "P2");
+  expect(judge_call(&beyond).refusal == 4, "P2: 1,073,741,824 is RANGE");
+}
+
+static void p3(void) {
+  static const uint32_t tuple[3] = {4, 47, 85};
+  judge_lend(17, 2);
+  call(NEW_TRACED, 1, 2, 0);
+  integer_word(23);
+  call(STORE, 1, 0, 0);
+  integer_word(42);
+  call(STORE, 1, 1, 0);
+  expect(memcmp(judged()->heap + 1, tuple, sizeof tuple) == 0, "P3: the tuple (23, 42)");
+}
+
+/* The text "hello" lives through a collection, though its first word looks like an address. */
+static void p4(void) {
+  static const uint32_t text[3] = {0x80000004u, 0x6c6c6568u, 0x0000006fu};
+  struct call write = call_of(RAW_WRITE, 0, 0, 0);
+  judge_lend(17, 1);
+  call(NEW_UNTRACED, 0, 2, 0);
+  write.number = text[1];
+  judge_call(&write);
+  write.b = 1;
+  write.number = text[2];
+  judge_call(&write);
+  expect(memcmp(judged()->heap + 1, text, sizeof text) == 0, "P4: the text before");
+  expect(call(COLLECT, 0, 0, 0).value == 3, "P4: three live words");
+  expect(memcmp(judged()->heap + 9, text, sizeof text) == 0, "P4: the text after");
+}
+
+static void on_p5(size_t roots) {
+  judge_lend(17, roots < 2 ? 2 : roots);
+  p5_heap(judged());
+  judge_settle();
+}
+
+static int is_p5_result(void) {
+  static const uint32_t words[17] = {0, 0, 0, 0, 0, 0, 0, 0, 0, 0, 4, 40, 21, 0, 0, 0, 0};
+  const struct state *s = judged();
+  return s->half == 1 && s->free == 13 && memcmp(s->heap, words, sizeof words) == 0 && s->roots[0] == 36 &&
+         s->roots[1] == 40;
+}
+
+static void p5_to_p7(void) {
+  on_p5(2);
+  expect(call(COLLECT, 0, 0, 0).value == 4 && is_p5_result(), "P5");
+  on_p5(2);
+  expect(call(NEW_TRACED, 1, 3, 0).refusal == 0, "P6 is done");
+  expect(judged()->heap[13] == 6 && judged()->roots[1] == 52 && judged()->free == 17, "P6");
+  on_p5(2);
+  expect(call(NEW_TRACED, 1, 4, 0).refusal == 9 && is_p5_result(), "P7");
+}
+
+static void p8_to_p10(void) {
+  on_p5(2);
+  judged()->roots[0] = 12;
+  judge_settle();
+  expect(call(COLLECT, 0, 0, 0).value == 3 && judged()->roots[0] == 36 && judged()->roots[1] == 36, "P8");
+  on_p5(2);
+  judged()->roots[0] = 14;
+  judge_settle();
+  expect(call(COLLECT, 0, 0, 0).refusal == 8 && call(INSPECT, 0, 0, 0).refusal == 5, "P9 with 14");
+  judged()->roots[0] = 16;
+  judge_settle();
+  expect(call(COLLECT, 0, 0, 0).refusal == 8 && call(INSPECT, 0, 0, 0).refusal == 5, "P9 with 16");
+}
+
+static void p10(void) {
+  uint32_t words[17];
+  on_p5(2);
+  memcpy(words, judged()->heap, sizeof words);
+  judge_lend(17, 0);
+  memcpy(judged()->heap, words, sizeof words);
+  judged()->free = 7;
+  judge_settle();
+  expect(call(COLLECT, 0, 0, 0).value == 0 && judged()->half == 1 && judged()->free == 9, "P10");
+}
+
+static uint32_t fresh_then(size_t n) {
+  judge_lend(17, 1);
+  call(FRESH, 0, 0, 0);
+  return call(NEW_TRACED, 0, n, 0).refusal;
+}
+
+static void fresh_cases(void) {
+  expect(fresh_then(7) == 0 && judged()->free == 9, "Fresh: n = 7 fits");
+  expect(fresh_then(8) == 9 && judged()->half == 1 && judged()->free == 9, "Fresh: n = 8 is ROOM");
+  expect(fresh_then(1073741823) == 9 && judged()->half == 1, "Fresh: n = 1,073,741,823 is ROOM");
+  expect(fresh_then(1073741824) == 3 && judged()->half == 0, "Fresh: n = 1,073,741,824 is COUNT");
+}
+
+/* The README's way to P5: by calls only. */
+static void p5_by_calls(void) {
+  static const uint32_t words[7] = {0, 2, 1, 4, 12, 21, 0};
+  judge_lend(17, 2);
+  call(FRESH, 0, 0, 0);
+  call(NEW_TRACED, 0, 1, 0);
+  { struct call zero = set_integer_of(1, 0); judge_call(&zero); }
+  call(STORE, 0, 0, 1);
+  call(NEW_TRACED, 1, 2, 0);
+  call(STORE, 1, 0, 1);
+  integer_word(10);
+  call(STORE, 1, 1, 0);
+  call(NEW_TRACED, 0, 0, 0);
+  expect(memcmp(judged()->heap, words, sizeof words) == 0 && judged()->free == 7, "P5 by calls: the words");
+  expect(call(COLLECT, 0, 0, 0).value == 4 && is_p5_result(), "P5 by calls: the collection");
+}
+
+void worked_heaps(void) {
+  judge_part("worked heaps");
+  p1_p2();
+  p3();
+  p4();
+  p5_to_p7();
+  p8_to_p10();
+  p10();
+  fresh_cases();
+  p5_by_calls();
+}
