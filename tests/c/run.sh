@@ -37,11 +37,9 @@ smallest() {
 }
 
 header
-[ ! -f examples/tuple.c ] || smallest
-if [ -f tests/c/lisp.sh ]; then
-    build lisp examples/lisp/*.c "$archive"
-    sh tests/c/lisp.sh $made/lisp || fail "the interpreter"
-fi
+smallest
+build lisp examples/lisp/*.c "$archive"
+sh tests/c/lisp.sh $made/lisp || fail "the interpreter"
 build check tests/c/*.c "$archive"
 calls=1000000
 [ "$(tools/cc.sh pace)" = native ] || calls=100000
