@@ -1,9 +1,9 @@
 -- The law that every exported call cites: a call that is made with the record taken from C's numbers, and whose answer and record
 -- go back as numbers, is the model's call given those numbers. Assumes nothing.
-use Prim.Native.Nat.{ℕ, _<_}
+use Prim.Native.Nat.{ℕ}
 use native.Mathlib.Omega.{arith}
 use mathlib.Core.Path.{_≡_, refl, sym, ap, _∙_, subst}
-use mathlib.Core.Bool.{Bool, true, false, cond}
+use mathlib.Core.Bool.{Bool, true, false}
 use mathlib.Core.List.{List, []}
 use lib.ListN.{length}
 use Rattle.model.specs.declared.Record.{Record}
@@ -18,13 +18,12 @@ use Rattle.model.specs.Answers.{Outcome, outcome, told, refuse}
 use Rattle.model.specs.Calls.{fresh}
 use Rattle.model.specs.Window.{window}
 use Rattle.model.specs.Sessions.{step}
-use Rattle.model.proofs.Tests.{by-test}
 use Rattle.phachunoi.specs.declared.numbers.CRecord.{CRecord}
 use Rattle.phachunoi.specs.declared.numbers.CResult.{CResult}
 use Rattle.phachunoi.specs.declared.numbers.CWindow.{CWindow}
-use Rattle.phachunoi.specs.Numbers.{Given, given, called, begun, result, noHalf, recordOf, numbersOf, inNumbers, shapeRefused, windowNumbers, opened}
-use Rattle.phachunoi.specs.Crossing.{taken, back, freshBack, Narrow, NarrowPlace}
-use Rattle.phachunoi.proofs.ShapeFirst.{nowhere, nowhere-bad, shape-first, window-shape}
+use Rattle.phachunoi.specs.Numbers.{Given, given, called, begun, result, noHalf, windowNumbers, opened}
+use Rattle.phachunoi.specs.Crossing.{nowhere, taken, back, freshBack, Narrow, NarrowPlace}
+use Rattle.phachunoi.proofs.ShapeFirst.{nowhere-bad, shape-first, window-shape}
 use Rattle.phachunoi.proofs.FreeIndexes.{step-narrow, window-narrow}
 
 -- the call that was made, of the record that was taken

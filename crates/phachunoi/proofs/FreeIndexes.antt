@@ -9,25 +9,24 @@ use Rattle.model.specs.declared.Kind.{Kind}
 use Rattle.model.specs.declared.Kind.the-variants.{Traced, Untraced}
 use Rattle.model.specs.declared.Refusal.{Refusal}
 use Rattle.model.specs.declared.Refusal.the-variants as Why
-use Rattle.model.specs.declared.Answer.the-variants as Says
 use Rattle.model.specs.declared.Call.{Call}
 use Rattle.model.specs.declared.Call.the-variants as Ask
 use Rattle.model.specs.declared.Place.{Place}
 use Rattle.model.specs.declared.Place.the-variants as Place
-use Rattle.model.specs.Words.{State, free, firstWord, halfWords}
+use Rattle.model.specs.Words.{State, free}
 use Rattle.model.specs.Values.{isOdd, isNull}
 use Rattle.model.specs.Headers.{Layout}
 use Rattle.model.specs.Shape.{badShape}
 use Rattle.model.specs.Soundness.{sound}
 use Rattle.model.specs.Collection.{collected}
-use Rattle.model.specs.Answers.{Outcome, says, refuse}
+use Rattle.model.specs.Answers.{Outcome, refuse}
 use Rattle.model.specs.Objects.{index, names}
 use Rattle.model.specs.Changes.{noRoot, rootWord, spare, fits, placed}
 use Rattle.model.specs.Calls as Calls
 use Rattle.model.specs.Window.{window}
 use Rattle.model.specs.Sessions.{step}
 use Rattle.model.proofs.Shape.{Shaped, shaped, first-in}
-use Rattle.model.proofs.Soundness.{Sound, sound-parts}
+use Rattle.model.proofs.Soundness.{sound-parts}
 use Rattle.model.proofs.CollectedSound.{new-shape}
 use Rattle.objects.proofs.NamedObjects.{header-below}
 use Rattle.phachunoi.specs.Crossing.{Narrow, NarrowPlace}

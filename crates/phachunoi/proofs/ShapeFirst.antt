@@ -5,8 +5,6 @@ use mathlib.Core.Bool.{Bool, true, _||_}
 use mathlib.Core.List.{List}
 use lib.Dec.{ltb}
 use lib.ListN.{length}
-use Rattle.model.specs.declared.Half.the-variants.{A}
-use Rattle.model.specs.declared.Record.{Record}
 use Rattle.model.specs.declared.Refusal.{Refusal}
 use Rattle.model.specs.declared.Refusal.the-variants as Why
 use Rattle.model.specs.declared.Answer.the-variants as Says
@@ -22,10 +20,7 @@ use Rattle.model.specs.Calls as Calls
 use Rattle.model.specs.Window.{window}
 use Rattle.model.specs.Sessions.{step}
 use Rattle.model.proofs.Tests.{or-left, or-right}
-
--- the record of half A with the free index 0
-abbrev pub nowhere : Record
-nowhere = record { half = A; free = record { 0 = 0 } }
+use Rattle.phachunoi.specs.Crossing.{nowhere}
 
 pub nowhere-bad : (H R : List ℕ) → badShape (lent H R nowhere) ≡ true
 unfolding badShapeOf

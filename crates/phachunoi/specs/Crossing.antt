@@ -11,9 +11,13 @@ use Rattle.model.specs.declared.Told.{Told}
 use Rattle.phachunoi.specs.declared.numbers.CRecord.{CRecord}
 use Rattle.phachunoi.specs.Numbers.{noHalf, numbersOf, recordOf}
 
--- the record to call with. Where the half is none, the free index 0 has every call answer SHAPE: it lies in no half.
+-- a record that no heap has: the free index 0 lies in no half, so that every call answers SHAPE
+abbrev pub nowhere : Record
+nowhere = record { half = A; free = record { 0 = 0 } }
+
+-- the record to call with
 abbrev pub taken : CRecord → Record
-taken c = cond (noHalf c) (record { half = A; free = record { 0 = 0 } }) (recordOf c)
+taken c = cond (noHalf c) nowhere (recordOf c)
 
 -- the record to hand back, of the one that came and the one that the call returned
 abbrev pub back : CRecord → Record → CRecord
