@@ -9,12 +9,12 @@ use lib.Dec.{ltb, eqb}
 use lib.ListN.{length, length-append}
 use borrow.Author.Tests.{ltb-true, ltb-false, eqb-true, eq-eqb, ne-eqb, lt-ltb, le-ltb}
 use Rattle.model.specs.Collection.{cells}
-use Rattle.model.specs.Discovery.{mem, packed}
+use Rattle.model.specs.Discovery.{packed}
 use Rattle.model.specs.Headers.{Layout}
 use Rattle.model.specs.Objects.{size}
 use Rattle.model.specs.Soundness.{tiles, headersFrom}
 use Rattle.model.specs.Words.{at}
-use Rattle.model.proofs.Members.{In, Out, in-nil, in-cons, Distinct}
+use Rattle.model.proofs.Members.{In, in-nil, in-cons}
 use Rattle.model.proofs.Objects.{cells-length}
 use Rattle.model.proofs.Tests.{by-test, or-cases, and-both}
 
@@ -84,24 +84,6 @@ module _ (Y : Layout) where
       record { from = omega (arith, ih .from); clear = ih .clear; within = ih .within })
       (in-cons j i (headersFrom Y H e n (i + size Y H i)) (rw (headers-more H e n i l) at h)))
       (λ (l : ltb i e ≡ false). in-nil j (rw (headers-end H e n i l) at h))
-      (by-test (ltb i e))
-
-  pub headers-distinct : (H : List ℕ) (e n i : ℕ) → tiles Y H e n i ≡ true → Distinct (headersFrom Y H e n i)
-  unfolding headersFrom
-  headers-distinct H e zero i t = tt
-  headers-distinct H e (suc n) i t =
-      ⊎-elim
-      (λ (l : ltb i e ≡ true).
-      let a = tiles-step H e n i t (ltb-true _ _ l) in
-      let hs = headersFrom Y H e n (i + size Y H i) in
-      rw (headers-more H e n i l) (
-        ⊎-elim
-            (λ (m : In i hs). let b = headers-tile H e n (i + size Y H i) i (a .1) m .from in absurd (omega arith))
-            (λ (m : Out i hs). m)
-            (by-test (mem i hs)),
-        headers-distinct H e n (i + size Y H i) (a .1),
-      ))
-      (λ (l : ltb i e ≡ false). rw (headers-end H e n i l) tt)
       (by-test (ltb i e))
 
   -- two headers of a tiling do not overlap

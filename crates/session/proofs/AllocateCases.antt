@@ -2,7 +2,7 @@
 use Prim.Native.Nat.{ℕ, _+_, _≤_, _<_}
 use native.Mathlib.Numerals.{add-one}
 use native.Mathlib.Omega.{arith}
-use mathlib.Core.Path.{_≡_, ap, sym, _∙_}
+use mathlib.Core.Path.{_≡_, ap, _∙_}
 use mathlib.Core.Bool.{true, false}
 use mathlib.Core.List.{List}
 use lib.ListN.{length, set}
@@ -18,7 +18,7 @@ use Rattle.model.specs.Objects.{address}
 use Rattle.model.specs.Soundness.{sound}
 use Rattle.model.specs.Collection.{collected}
 use Rattle.model.specs.Answers.{says, refuse}
-use Rattle.model.specs.Changes.{spare, fits, placed}
+use Rattle.model.specs.Changes.{spare, placed}
 use Rattle.model.specs.Calls as Calls
 use Rattle.model.proofs.Shape.{Shaped, first-in}
 use Rattle.words.specs.Runs.{cleared}

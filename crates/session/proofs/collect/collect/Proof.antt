@@ -1,5 +1,5 @@
 -- `session::collect::collect` meets its contract: one case of the definition for each return.
-use mathlib.Core.Path.{_≡_, ap, _∙_, sym}
+use mathlib.Core.Path.{_≡_, _∙_, sym}
 use mathlib.Core.Bool.{false}
 use Rattle.model.specs.Headers.{tuple}
 use Rattle.model.specs.Words.{lent}

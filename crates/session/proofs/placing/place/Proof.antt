@@ -1,5 +1,5 @@
 -- `session::placing::place` meets its contract: its three stores are those of `placed`.
-use mathlib.Core.Path.{_≡_, ap, _∙_, sym}
+use mathlib.Core.Path.{ap, _∙_}
 use native.Mathlib.Omega.{arith}
 use lib.ListN.{length, length-set}
 use Rattle.model.specs.Headers.{tuple}
