@@ -72,7 +72,7 @@ fn pass_object(heap: &mut [u32], object: Index, free: Index) -> Passed
 }
 
 // Passes objects until the scan has met the free words. Answers the word past the copies.
-pub fn pass_objects(heap: &mut [u32], new: Index, free: Index) -> Index
+pub(crate) fn pass_objects(heap: &mut [u32], new: Index, free: Index) -> Index
     requires { ⌜ SafeRun tuple (length (now heap) - new .0) (now heap) (between (new .0) (free .0)) ⌝ }
     ensures { λ r. ⌜ freed (now (heap .exit)) (r .0) ≡ ended (run tuple (length (now (heap .entry)) - new .0) (now (heap .entry)) (between (new .0) (free .0))) ⌝ }
 {

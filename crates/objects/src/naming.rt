@@ -17,7 +17,7 @@ use words::tuple::Tuple;
 use words::tuple::is_address;
 
 // Whether a word names an object. It looks at the word there only once that lies in the used part.
-pub fn names(heap: &[u32], record: Record, word: u32) -> bool
+pub(crate) fn names(heap: &[u32], record: Record, word: u32) -> bool
     requires { ⌜ FreeInHeap (now heap) «record» ⌝ }
     ensures { λ r. ⌜ ((R : List ℕ) → r ≡ Objects.names Layouts.tuple (lent (now (heap .entry)) R «record») word) ⌝ }
 {
@@ -62,7 +62,7 @@ fn is_of_kind(kind: Kind, header: u32) -> bool
 }
 
 // The field of the object that a word names: OBJECT, KIND and FIELD in order.
-pub fn field_of(heap: &[u32], record: Record, word: u32, kind: Kind, field: usize) -> Field
+pub(crate) fn field_of(heap: &[u32], record: Record, word: u32, kind: Kind, field: usize) -> Field
     requires { ⌜ FreeInHeap (now heap) «record» ⌝ }
     ensures { λ r. ⌜ ((R : List ℕ) → r ≡ fieldOf Layouts.tuple kind word field (lent (now (heap .entry)) R «record»)) ⌝ }
 {

@@ -65,7 +65,7 @@ pub extern "C" fn phachunoi_version() -> u32
 }
 
 // The record to call with. A free index of 0 is SHAPE in every heap, which a half that is none has to be.
-pub fn record_of(record: CRecord) -> Record
+pub(crate) fn record_of(record: CRecord) -> Record
     ensures { λ r. ⌜ r ≡ taken «record» ⌝ }
 {
     let free = Index(record.free as usize);
@@ -87,7 +87,7 @@ pub fn record_of(record: CRecord) -> Record
     }
 }
 
-pub fn numbers_of(record: Record) -> CRecord
+pub(crate) fn numbers_of(record: Record) -> CRecord
     requires { ⌜ Narrow («record» .free .0) ⌝ }
     ensures { λ r. ⌜ r ≡ Numbers.numbersOf «record» ⌝ }
 {
@@ -110,7 +110,7 @@ fn record_after(came: CRecord, record: Record) -> CRecord
     numbers_of(record)
 }
 
-pub fn result(came: CRecord, done: Answered) -> CResult
+pub(crate) fn result(came: CRecord, done: Answered) -> CResult
     requires { ⌜ Narrow (done .«record» .free .0) ⌝ }
     ensures { λ r. ⌜ r ≡ Numbers.result (told (done .answer)) (back came (done .«record»)) ⌝ }
 {
@@ -125,7 +125,7 @@ pub fn result(came: CRecord, done: Answered) -> CResult
 }
 
 // What fresh returns: the record as it came where it refuses, whatever its half, and else the new one.
-pub fn fresh_result(came: CRecord, done: Answered) -> CResult
+pub(crate) fn fresh_result(came: CRecord, done: Answered) -> CResult
     requires { ⌜ Narrow (done .«record» .free .0) ⌝ }
     ensures { λ r. ⌜ r ≡ Numbers.result (told (done .answer)) (freshBack (told (done .answer)) came (done .«record»)) ⌝ }
 {
@@ -143,7 +143,7 @@ pub fn fresh_result(came: CRecord, done: Answered) -> CResult
     }
 }
 
-pub fn collected(came: CRecord, done: Answered) -> CCollected
+pub(crate) fn collected(came: CRecord, done: Answered) -> CCollected
     requires { ⌜ Narrow (done .«record» .free .0) ⌝ }
     ensures { λ r. ⌜ r ≡ Numbers.collected (told (done .answer)) (back came (done .«record»)) ⌝ }
 {
@@ -157,7 +157,7 @@ pub fn collected(came: CRecord, done: Answered) -> CCollected
     }
 }
 
-pub fn answer(answer: Answer) -> CAnswer
+pub(crate) fn answer(answer: Answer) -> CAnswer
     ensures { λ r. ⌜ r ≡ Numbers.answer (told answer) ⌝ }
 {
     let told = words::numbers::told(answer);
@@ -167,7 +167,7 @@ pub fn answer(answer: Answer) -> CAnswer
     }
 }
 
-pub fn seen(answer: Answer) -> CSeen
+pub(crate) fn seen(answer: Answer) -> CSeen
     ensures { λ r. ⌜ r ≡ Numbers.seen (told answer) ⌝ }
 {
     let told = words::numbers::told(answer);
@@ -179,7 +179,7 @@ pub fn seen(answer: Answer) -> CSeen
     }
 }
 
-pub fn window_of(place: Place) -> CWindow
+pub(crate) fn window_of(place: Place) -> CWindow
     requires { ⌜ NarrowPlace place ⌝ }
     ensures { λ r. ⌜ r ≡ Numbers.windowNumbers place ⌝ }
 {

@@ -10,7 +10,7 @@ use model::Record;
 use words::tuple::Tuple;
 
 // The free words of the current half.
-pub fn spare_of(words: usize, record: Record) -> usize
+pub(crate) fn spare_of(words: usize, record: Record) -> usize
     requires { ⌜ MaySpare words «record» ⌝ }
     ensures { λ r. ⌜ r ≡ spareOf words «record» ⌝ }
 {
@@ -22,7 +22,7 @@ pub fn spare_of(words: usize, record: Record) -> usize
 }
 
 // Writes the header and the zeros at the free index, and the object's address into root `to`. Answers the new record.
-pub fn place(
+pub(crate) fn place(
     heap: &mut [u32],
     roots: &mut [u32],
     record: Record,
