@@ -21,7 +21,7 @@ use Rattle.model.specs.Shape.{badLength, badShapeOf, badShape}
 use Rattle.model.specs.Soundness.{sound}
 use Rattle.model.specs.Values.{isAddress, inRange}
 use Rattle.model.specs.Words.{State, halfWords, firstWord, free}
-use Rattle.model.proofs.Objects.{kind-traced, kind-untraced}
+use Rattle.model.proofs.Objects.{kind-same}
 use Rattle.model.proofs.Rows.{Decides}
 use Rattle.model.proofs.Shape.{Shaped, GoodLength, good-length, shaped}
 use Rattle.model.proofs.Tests.{never, or-cases, or-none}
@@ -111,10 +111,6 @@ range-decides (negsuc n) = record {
 }
 
 -- ---- objects
-
-pub kind-same : (k j : Kind) → isOfKind k j ≡ true → j ≡ k
-kind-same Traced j e = kind-traced j e
-kind-same Untraced j e = kind-untraced j (not-true (isTraced j) e)
 
 kind-other : (k j : Kind) → isOfKind k j ≡ false → j ≡ k → ⊥
 kind-other Traced j e q = never (ap isTraced q) e

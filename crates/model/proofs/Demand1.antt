@@ -31,7 +31,6 @@ use Rattle.model.proofs.PlainAnswers.{refused-same, done-plainly}
 use Rattle.model.proofs.Conditions.{length-decides, shape-decides, root-decides, object-decides}
 use Rattle.model.proofs.Demand2.{collects}
 use Rattle.model.proofs.Judged.{Left, unchanged, recollected, Judged, by-row, by-none, judged-refuse, judged-says, step-judged}
-use Rattle.model.proofs.Lengths.{keeps}
 use Rattle.model.proofs.Rows.{Settled, refused, passed, settled-refuses, Decides}
 use Rattle.model.proofs.Tests.{by-test}
 

@@ -1,21 +1,18 @@
 -- The graph of a session names only objects that it has. Assumes nothing.
 use Prim.Native.Nat.{ℕ, _+_, _≤_, _<_}
 use native.Mathlib.Omega.{arith}
-use mathlib.Core.Path.{_≡_, refl, sym, ap, subst}
+use mathlib.Core.Path.{_≡_, sym, ap, subst}
 use mathlib.Core.Logic.{⊎-elim}
-use mathlib.Core.Bool.{Bool, true, false}
 use mathlib.Core.List.{List, [], _∷_, _++_}
 use lib.ListN.{length, getD, set, length-append, length-set, List·getD-append, List·getD-eq-default}
 use lib.Seq.{getD-set-same, getD-set-other, getD-append-seam, set-out}
 use Rattle.model.specs.declared.Kind.{Kind}
 use Rattle.model.specs.declared.Kind.the-variants.{Traced, Untraced}
-use Rattle.model.specs.declared.Refusal.{Refusal}
 use Rattle.model.specs.declared.Call.{Call}
-use Rattle.model.specs.declared.Refusal.the-variants as Why
-use Rattle.model.specs.declared.Call.the-variants as Ask
 use Rattle.model.specs.Demand3 as D3
-use Rattle.model.specs.Graph.{integer, null, Value, plain, object, Object, traced, untraced, Graph, emptyGraph, nth, rootValue}
-use Rattle.model.specs.GraphCalls.{Outcomeᵍ, refuseᵍ, withRootᵍ, withObject, blankObject, grown, byKind, onObject, inspected, stepᵍ, afterᵍ}
+use Rattle.model.specs.Graph.{null, Value, plain, object, Object, traced, untraced, Graph, emptyGraph, nth, rootValue}
+use Rattle.model.specs.GraphCalls.{withRootᵍ, withObject, blankObject, grown, stepᵍ, afterᵍ}
+use Rattle.model.proofs.GraphLeaving.{graph-step}
 use Rattle.model.proofs.Lists.{getD-same}
 use Rattle.model.proofs.Tests.{decide, same?}
 
@@ -94,60 +91,23 @@ grown-closed g k m r c =
 
 -- ---- the calls
 
-data Ends : Outcomeᵍ → Type 0 where
-  ends : {o : Outcomeᵍ} → Closed (o .left) → Ends o
-
-refuse-ends : (b : Bool) (k : Refusal) (g : Graph) (o : Outcomeᵍ) → Closed g → Ends o → Ends (refuseᵍ b k g o)
-unfolding refuseᵍ
-refuse-ends true k g o c e = ends c
-refuse-ends false k g o c e = e
-
 -- a traced object's fields name objects of the graph
 traced-under : (g : Graph) (i : ℕ) (vs : List Value) → Closed g → nth g i ≡ traced vs → (f : ℕ) → Under (length (g .objects)) (getD vs f (plain null))
 traced-under g i vs c e = subst (UnderAll (length (g .objects))) e (c .fields i)
 
-kind-ends : (b : Object) (t : List Value → Outcomeᵍ) (u : List ℕ → Outcomeᵍ) → ((vs : List Value) → b ≡ traced vs → Ends (t vs)) → ((ws : List ℕ) → Ends (u ws)) → Ends (byKind b t u)
-kind-ends (traced vs) t u f h = f vs refl
-kind-ends (untraced ws) t u f h = h ws
-
-object-ends : (g : Graph) (v : Value) (t : ℕ → List Value → Outcomeᵍ) (u : ℕ → List ℕ → Outcomeᵍ) → Closed g
-    → ((i : ℕ) (vs : List Value) → nth g i ≡ traced vs → Ends (t i vs)) → ((i : ℕ) (ws : List ℕ) → Ends (u i ws)) → Ends (onObject g v t u)
-unfolding onObject
-object-ends g (plain p) t u c f h = ends c
-object-ends g (object i) t u c f h = kind-ends (nth g i) (t i) (u i) (f i) (h i)
-
-inspected-ends : (g : Graph) (v : Value) → Closed g → Ends (inspected g v)
-unfolding inspected
-inspected-ends g (plain p) c = ends c
-inspected-ends g (object i) c = kind-ends (nth g i) _ _ (λ vs e. ends c) (λ ws. ends c)
-
-step-ends : (c : Call) (g : Graph) → Closed g → Ends (stepᵍ c g)
-unfolding stepᵍ
-step-ends Ask.Collect g h = ends h
-step-ends Ask.Check g h = ends h
-step-ends (Ask.Allocate k n r) g h = refuse-ends _ Why.Root g _ h (refuse-ends _ Why.Count g _ h (ends (grown-closed g k n r h)))
-step-ends (Ask.SetInteger r v) g h = refuse-ends _ Why.Root g _ h (refuse-ends _ Why.Range g _ h (ends (root-closed g r (plain (integer v)) h tt)))
-step-ends (Ask.SetNull r) g h = refuse-ends _ Why.Root g _ h (ends (root-closed g r (plain null) h tt))
-step-ends (Ask.Copy p q) g h = refuse-ends _ Why.Root g _ h (ends (root-closed g q (rootValue g p) h (h .roots p)))
-step-ends (Ask.Load r f q) g h =
-    refuse-ends _ Why.Root g _ h (object-ends g _ _ _ h
-    (λ i vs e. refuse-ends _ Why.Field g _ h (ends (root-closed g q (getD vs f (plain null)) h (traced-under g i vs h e f)))) (λ i ws. ends h))
-step-ends (Ask.Store r f q) g h =
-    refuse-ends _ Why.Root g _ h (object-ends g _ _ _ h
-    (λ i vs e. refuse-ends _ Why.Field g _ h (ends (object-closed g i (traced (set vs f (rootValue g q))) h
-    (λ k. set-at (Under (length (g .objects))) vs f k (rootValue g q) (plain null) (h .roots q) (traced-under g i vs h e))))) (λ i ws. ends h))
-step-ends (Ask.RawRead r f) g h =
-    refuse-ends _ Why.Root g _ h (object-ends g _ _ _ h (λ i vs e. ends h) (λ i ws. refuse-ends _ Why.Field g _ h (ends h)))
-step-ends (Ask.RawWrite r f n) g h =
-    refuse-ends _ Why.Root g _ h (object-ends g _ _ _ h (λ i vs e. ends h) (λ i ws. refuse-ends _ Why.Field g _ h (ends (object-closed g i (untraced (set ws f n)) h tt))))
-step-ends (Ask.Same p q) g h = refuse-ends _ Why.Root g _ h (ends h)
-step-ends (Ask.Inspect r) g h = refuse-ends _ Why.Root g _ h (inspected-ends g (rootValue g r) h)
-
 step-closed : (c : Call) (g : Graph) → Closed g → Closed (stepᵍ c g .left)
-step-closed c g h = go (stepᵍ c g) (step-ends c g h)
-  where
-    go : (o : Outcomeᵍ) → Ends o → Closed (o .left)
-    go o (ends e) = e
+step-closed c g h = graph-step g (λ o. Closed (o .left)) (record {
+  refused = λ k e. h;
+  answered = λ a f. h;
+  set-plain = λ r p. root-closed g r (plain p) h tt;
+  copied = λ from to. root-closed g to (rootValue g from) h (h .roots from);
+  loaded = λ i f to vs e. root-closed g to (getD vs f (plain null)) h (traced-under g i vs h e f);
+  stored = λ i f from vs e.
+      object-closed g i (traced (set vs f (rootValue g from))) h
+      (λ k. set-at (Under (length (g .objects))) vs f k (rootValue g from) (plain null) (h .roots from) (traced-under g i vs h e));
+  written = λ i f x ws. object-closed g i (untraced (set ws f x)) h tt;
+  allocated = λ k n r. grown-closed g k n r h;
+}) c
 
 pub after-closed : (cs : List Call) (g : Graph) → Closed g → Closed (afterᵍ cs g)
 unfolding afterᵍ

@@ -3,7 +3,7 @@ use Prim.Native.Nat.{ℕ, _%_}
 use native.Mathlib.Omega.{arith}
 use mathlib.Core.Path.{_≡_, refl, sym, ap, _∙_}
 use mathlib.Core.Logic.{inl, inr}
-use mathlib.Core.Bool.{Bool, true, false, not, cond, _||_, true≢false}
+use mathlib.Core.Bool.{Bool, true, false, not, _||_, true≢false}
 use mathlib.Core.List.{List, [], _∷_}
 use lib.Dec.{eqb}
 use borrow.Author.Tests.{eqb-true, eqb-false, eq-eqb, ne-eqb, not-false}
@@ -30,11 +30,11 @@ use Rattle.model.specs.Shape.{badShape}
 use Rattle.model.specs.Soundness.{sound}
 use Rattle.model.specs.Values.{isOdd, isNull, isAddress}
 use Rattle.model.specs.Words.{State}
-use Rattle.model.proofs.PlainAnswers.{Plainly, done-plainly, live-plainly, sound-plainly, number-plainly, object-plainly, pick-plainly, unsound-plainly, integer-plainly, null-plainly}
+use Rattle.model.proofs.PlainAnswers.{Plainly, plainly, done-plainly, either-plainly, object-plainly}
 use Rattle.model.proofs.Conditions.{shape-decides, no-roots, root-decides, roots-decide, count-decides, range-decides, object-decides, value-decides, kind-decides, field-decides, unsound-decides, called, uncalled, damaged-decides, room-decides}
 use Rattle.model.proofs.Rows.{Decides}
 use Rattle.model.proofs.Soundness.{Sound}
-use Rattle.model.proofs.Tests.{never}
+use Rattle.model.proofs.Tests.{cond-holds, never}
 
 -- what a call refused with k leaves: what it was lent, or the collection for ROOM
 pub data Left (Y : Layout) (s : State) (k : Refusal) (t : State) : Type 0 where
@@ -72,10 +72,6 @@ module _ (Y : Layout) (s : State) where
   pub judged-says : (a : Answer) (t : State) → Plainly a → Judged Y s [] (says a t)
   judged-says a t p = by-none tt p
 
-  judged-pick : (b : Bool) (qs : List Row.Row) (o q : Outcome) → (b ≡ true → Judged Y s qs o) → (b ≡ false → Judged Y s qs q) → Judged Y s qs (cond b o q)
-  judged-pick true qs o q f g = f refl
-  judged-pick false qs o q f g = g refl
-
   -- SHAPE first
   judged-shape : (qs : List Row.Row) (o : Outcome) → Judged Y s qs o → Judged Y s (Row.row Why.Shape (Row.BadShape s) ∷ qs) (refuse (badShape s) Why.Shape s o)
   judged-shape qs o t = judged-refuse (badShape s) Why.Shape (Row.BadShape s) qs o refl (shape-decides s) (λ e. t)
@@ -99,13 +95,6 @@ module _ (Y : Layout) (s : State) where
       judged-refuse _ Why.Kind _ _ _ refl (kind-decides Y s r n k) (λ b.
       judged-refuse _ Why.Field _ _ _ refl (field-decides Y s r n f) (λ c. by-none tt p)))
 
-  check-plainly : Plainly (cond (sound Y s) Says.Sound Says.Unsound)
-  check-plainly = go (sound Y s)
-    where
-      go : (b : Bool) → Plainly (cond b Says.Sound Says.Unsound)
-      go true = sound-plainly
-      go false = unsound-plainly
-
   -- inspect: a word that is odd or 0 is no address
   odd-no-value : (r : ℕ) → isOdd (rootWord s r) ≡ true → Row.NoValue Y s r → ⊥
   odd-no-value r e v =
@@ -123,11 +112,11 @@ module _ (Y : Layout) (s : State) where
   pub step-judged : (c : Call) → Judged Y s (Row.rows Y c s) (step Y c s)
   unfolding step Calls.collect Calls.check Calls.allocate Calls.setInteger Calls.setNull Calls.copy Calls.load Calls.store Calls.rawRead Calls.rawWrite Calls.same Calls.inspect
   step-judged Ask.Collect =
-      judged-shape _ _ (judged-none _ _ (judged-refuse _ Why.Damaged _ _ _ refl (unsound-decides Y s) (λ e. judged-says _ _ (live-plainly (live Y s)))))
-  step-judged Ask.Check = judged-shape _ _ (judged-none _ _ (judged-says _ _ check-plainly))
+      judged-shape _ _ (judged-none _ _ (judged-refuse _ Why.Damaged _ _ _ refl (unsound-decides Y s) (λ e. judged-says _ _ (plainly (Says.Live (live Y s)) refl))))
+  step-judged Ask.Check = judged-shape _ _ (judged-none _ _ (judged-says _ s (either-plainly (sound Y s) Says.Sound Says.Unsound refl refl)))
   step-judged (Ask.Allocate k n r) =
       judged-shape _ _ (judged-root r _ _ (judged-refuse _ Why.Count _ _ _ refl (count-decides n) (λ a.
-      judged-pick (fits n s) _ _ _
+      cond-holds (Judged Y s _) (fits n s) _ _
       (λ b. by-none ((λ c. uncalled n s b (c .0)), ((λ c. uncalled n s b (c .0)), tt)) done-plainly)
       (λ b.
       let c = called n s b in
@@ -138,11 +127,11 @@ module _ (Y : Layout) (s : State) where
   step-judged (Ask.Copy p q) = judged-shape _ _ (judged-roots p q _ _ (judged-says _ _ done-plainly))
   step-judged (Ask.Load r f q) = judged-shape _ _ (judged-roots r q _ _ (judged-field Traced r f _ done-plainly))
   step-judged (Ask.Store r f q) = judged-shape _ _ (judged-roots r q _ _ (judged-field Traced r f _ done-plainly))
-  step-judged (Ask.RawRead r f) = judged-shape _ _ (judged-root r _ _ (judged-field Untraced r f _ (number-plainly _)))
+  step-judged (Ask.RawRead r f) = judged-shape _ _ (judged-root r _ _ (judged-field Untraced r f _ (plainly (Says.Number _) refl)))
   step-judged (Ask.RawWrite r f n) = judged-shape _ _ (judged-root r _ _ (judged-field Untraced r f _ done-plainly))
-  step-judged (Ask.Same p q) = judged-shape _ _ (judged-roots p q _ _ (judged-says _ s (pick-plainly (eqb (rootWord s p) (rootWord s q)))))
+  step-judged (Ask.Same p q) = judged-shape _ _ (judged-roots p q _ _ (judged-says _ s (either-plainly (eqb (rootWord s p) (rootWord s q)) Says.Yes Says.No refl refl)))
   step-judged (Ask.Inspect r) =
       judged-shape _ _ (judged-root r _ _
-      (judged-pick (isOdd (rootWord s r)) _ _ _ (λ a. by-none (odd-no-value r a, tt) (integer-plainly _)) (λ a.
-      judged-pick (isNull (rootWord s r)) _ _ _ (λ b. by-none (null-no-value r b, tt) null-plainly) (λ b.
+      (cond-holds (Judged Y s _) (isOdd (rootWord s r)) _ _ (λ a. by-none (odd-no-value r a, tt) (plainly (Says.Integer _) refl)) (λ a.
+      cond-holds (Judged Y s _) (isNull (rootWord s r)) _ _ (λ b. by-none (null-no-value r b, tt) (plainly Says.Null refl)) (λ b.
       judged-refuse _ Why.Object _ _ _ refl (value-decides Y s r (other-address r a b)) (λ d. judged-says _ _ (object-plainly _ _))))))

@@ -128,8 +128,8 @@ fresh-lengths s =
 
 pub keeps-lengths : (Y : Layout) → Law.KeepsLengths (machine Y)
 keeps-lengths Y = record {
-  heap = λ c s. step-lengths Y c s .0;
-  roots = λ c s. step-lengths Y c s .1;
+  heap = λ c s. step-lengths Y s c .0;
+  roots = λ c s. step-lengths Y s c .1;
   freshHeap = λ s. fresh-lengths s .0;
   freshRoots = λ s. fresh-lengths s .1;
 }

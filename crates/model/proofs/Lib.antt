@@ -33,8 +33,10 @@ pub mod CallPlace
 pub mod CallAllocate
 pub mod Stage
 pub mod During
+pub mod Leaving
 pub mod Lengths
 pub mod PlainAnswers
+pub mod GraphLeaving
 pub mod GraphAnswers
 pub mod GraphReach
 pub mod GraphClosed

@@ -8,6 +8,8 @@ use lib.ListN.{length, getD, drop, length-take, length-drop, length-map}
 use lib.Seq.{getD-take, getD-drop}
 use Rattle.model.specs.declared.Kind.{Kind}
 use Rattle.model.specs.declared.Kind.the-variants.{Traced, Untraced}
+use borrow.Author.Tests.{not-true}
+use Rattle.model.specs.Calls.{isOfKind}
 use Rattle.model.specs.Collection.{fieldCell, cells}
 use Rattle.model.specs.Headers.{Layout}
 use Rattle.model.specs.Objects.{isTraced, address, index, kind, fieldCount, size, fieldWords}
@@ -21,6 +23,10 @@ kind-traced Untraced h = never h refl
 pub kind-untraced : (k : Kind) → isTraced k ≡ false → k ≡ Untraced
 kind-untraced Traced h = never refl h
 kind-untraced Untraced h = refl
+
+pub kind-same : (k j : Kind) → isOfKind k j ≡ true → j ≡ k
+kind-same Traced j e = kind-traced j e
+kind-same Untraced j e = kind-untraced j (not-true (isTraced j) e)
 
 module _ (Y : Layout) where
   pub index-address : (i : ℕ) → index Y (address Y i) ≡ i

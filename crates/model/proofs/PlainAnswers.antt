@@ -1,52 +1,51 @@
 -- Answers that are no refusal, and refusals told apart. Assumes nothing.
 use Prim.Native.Nat.{ℕ}
 use native.Mathlib.Omega.{arith}
-use mathlib.Core.Path.{_≡_}
-use mathlib.Core.Bool.{Bool, true, false, cond}
-use lib.IntN.{ℤ}
+use mathlib.Core.Path.{_≡_, refl, sym, _∙_, ap}
+use mathlib.Core.Bool.{Bool, cond}
 use Rattle.model.specs.declared.Kind.{Kind}
+use Rattle.model.specs.declared.Kind.the-variants.{Traced, Untraced}
 use Rattle.model.specs.declared.Refusal.{Refusal}
+use Rattle.model.specs.declared.Refusal.the-variants as Why
 use Rattle.model.specs.declared.Answer.{Answer}
 use Rattle.model.specs.declared.Answer.the-variants as Says
-use Rattle.model.specs.Graph.{Plain, integer, null, Object}
+use Rattle.model.specs.Answers.{number, told}
+use Rattle.model.specs.Graph.{Plain, integer, null}
 use Rattle.model.specs.GraphCalls.{plainAnswer}
-use Rattle.model.proofs.Soundness.{Sound}
+use Rattle.model.proofs.Tests.{cond-holds}
 
 pub refused-same : (j k : Refusal) → Says.Refused j ≡ Says.Refused k → j ≡ k
 refused-same j k e = cc
 
--- an answer that is no refusal
+numbered : (k : Refusal) → number k ≡ 0 → ⊥
+numbered Why.Shape e = omega arith
+numbered Why.Root e = omega arith
+numbered Why.Count e = omega arith
+numbered Why.Range e = omega arith
+numbered Why.Object e = omega arith
+numbered Why.Kind e = omega arith
+numbered Why.Field e = omega arith
+numbered Why.Damaged e = omega arith
+numbered Why.Room e = omega arith
+
+-- an answer that is no refusal: one whose refusal is told as 0
 abbrev pub Plainly : Answer → Type 0
 Plainly a = (k : Refusal) → a ≡ Says.Refused k → ⊥
 
-pub done-plainly : (k : Refusal) → Says.Done ≡ Says.Refused k → ⊥
-done-plainly k e = let z : _≡_ {A = ℕ} 0 1 = cc in omega arith
+pub plainly : (a : Answer) → told a .refusal ≡ 0 → Plainly a
+plainly a e k q = numbered k (sym (ap (λ (x : Answer). told x .refusal) q) ∙ e)
 
-pub live-plainly : (n : ℕ) (k : Refusal) → Says.Live n ≡ Says.Refused k → ⊥
-live-plainly n k e = let z : _≡_ {A = ℕ} 0 1 = cc in omega arith
+pub done-plainly : Plainly Says.Done
+done-plainly = plainly Says.Done refl
 
-pub sound-plainly : Plainly Says.Sound
-sound-plainly k e = let z : _≡_ {A = ℕ} 0 1 = cc in omega arith
+-- of two answers by a test
+pub either-plainly : (b : Bool) (x y : Answer) → told x .refusal ≡ 0 → told y .refusal ≡ 0 → Plainly (cond b x y)
+either-plainly b x y e f = cond-holds Plainly b x y (λ t. plainly x e) (λ t. plainly y f)
 
-pub number-plainly : (w : ℕ) (k : Refusal) → Says.Number w ≡ Says.Refused k → ⊥
-number-plainly w k e = let z : _≡_ {A = ℕ} 0 1 = cc in omega arith
-
-pub object-plainly : (j : Kind) (n : ℕ) (k : Refusal) → Says.Object j n ≡ Says.Refused k → ⊥
-object-plainly j n k e = let z : _≡_ {A = ℕ} 0 1 = cc in omega arith
-
-pub pick-plainly : (b : Bool) (k : Refusal) → cond b Says.Yes Says.No ≡ Says.Refused k → ⊥
-pick-plainly true k e = let z : _≡_ {A = ℕ} 0 1 = cc in omega arith
-pick-plainly false k e = let z : _≡_ {A = ℕ} 0 1 = cc in omega arith
-
-pub unsound-plainly : Plainly Says.Unsound
-unsound-plainly k e = let z : _≡_ {A = ℕ} 0 1 = cc in omega arith
-
-pub integer-plainly : (v : ℤ) → Plainly (Says.Integer v)
-integer-plainly v k e = let z : _≡_ {A = ℕ} 0 1 = cc in omega arith
-
-pub null-plainly : Plainly Says.Null
-null-plainly k e = let z : _≡_ {A = ℕ} 0 1 = cc in omega arith
+pub object-plainly : (k : Kind) (n : ℕ) → Plainly (Says.Object k n)
+object-plainly Traced n = plainly (Says.Object Traced n) refl
+object-plainly Untraced n = plainly (Says.Object Untraced n) refl
 
 pub plain-plainly : (p : Plain) → Plainly (plainAnswer p)
-plain-plainly (integer v) = integer-plainly v
-plain-plainly null = null-plainly
+plain-plainly (integer v) = plainly (Says.Integer v) refl
+plain-plainly null = plainly Says.Null refl

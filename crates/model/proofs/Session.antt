@@ -26,7 +26,8 @@ use Rattle.model.proofs.CallAllocate.{allocate-room, Full, allocate-agr
 use Rattle.model.proofs.PlainAnswers.{refused-same}
 use Rattle.model.proofs.CallCollect.{live-same, collect-agrees}
 use Rattle.model.proofs.CallsOnFields.{load-agrees, store-agrees, rawRead-agrees, rawWrite-agrees}
-use Rattle.model.proofs.GraphAnswers.{ofGraph, graph-refuses, graph-room}
+use Rattle.model.proofs.GraphAnswers.{graph-refuses, graph-room}
+use Rattle.model.proofs.GraphLeaving.{ofGraph}
 use Rattle.model.proofs.Lengths.{step-lengths}
 use Rattle.model.proofs.Represents.{Represents, Agrees}
 use Rattle.model.proofs.CallsOnRoots.{check-agrees, setInteger-agrees, setNull-agrees, copy-agrees, same-agrees, inspect-agrees}
@@ -96,7 +97,7 @@ module _ (Y : Layout) (law : Lawful Y) where
       (step-goes c s⁺ g m⁺)
 
   step-half : (c : Call) (s : State) → halfWords (step Y c s .left .heap) ≡ halfWords (s .heap)
-  step-half c s = ap (λ x. (x - 1) / 2) (step-lengths Y c s .0)
+  step-half c s = ap (λ x. (x - 1) / 2) (step-lengths Y s c .0)
 
   -- k calls, none of which the smaller heap answers "no room"
   pub runs : (cs : List Call) (k : ℕ) (s s⁺ : State) (g : Graph) → Represents Y s g → Represents Y s⁺ g → halfWords (s .heap) ≤ halfWords (s⁺ .heap)
@@ -120,7 +121,7 @@ module _ (Y : Layout) (law : Lawful Y) where
   after-represents [] s g m = (m, refl, refl)
   after-represents (c ∷ cs) s g m =
       let t = step-half c s in
-      let q = step-lengths Y c s .1 in
+      let q = step-lengths Y s c .1 in
       ⊎-elim
       (λ (e : D3.isNoRoom (step Y c s .answer) ≡ true).
       let ih = after-represents cs (step Y c s .left) g (full-stands c s g m (is-no-room (step Y c s .answer) e)) in

@@ -3,7 +3,7 @@ use Prim.Native.Nat.{ℕ, zero, suc, _≤_, _<_}
 use native.Mathlib.Omega.{arith}
 use mathlib.Core.Path.{_≡_, refl, sym, _∙_}
 use mathlib.Core.Logic.{_⊎_, inl, inr, ⊎-elim}
-use mathlib.Core.Bool.{Bool, true, false, _||_, _&&_, true≢false}
+use mathlib.Core.Bool.{Bool, true, false, cond, _||_, _&&_, true≢false}
 use mathlib.Core.List.{List, [], _∷_}
 use lib.Dec.{ltb, eqb}
 use lib.ListN.{length, getD}
@@ -14,6 +14,11 @@ use Rattle.model.specs.Soundness.{all}
 pub by-test : (b : Bool) → (b ≡ true) ⊎ (b ≡ false)
 by-test true = inl refl
 by-test false = inr refl
+
+-- what holds of either choice of a `cond`, each where the test says so, holds of it
+pub cond-holds : {A : Type 0} (P : A → Type 0) (b : Bool) (x y : A) → (b ≡ true → P x) → (b ≡ false → P y) → P (cond b x y)
+cond-holds P true x y f g = f refl
+cond-holds P false x y f g = g refl
 
 pub never {ℓ} : {A : Type ℓ} {b : Bool} → b ≡ true → b ≡ false → A
 never {b = b} t f = absurd (true≢false (sym t ∙ f))

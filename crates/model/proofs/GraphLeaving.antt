@@ -1,0 +1,94 @@
+-- What a session call on the graph answers and leaves: a property of outcomes that each answer and each change of a call has holds of
+-- every call's outcome. One walk through the calls for every such property. Assumes nothing.
+use Prim.Native.Nat.{ℕ}
+use mathlib.Core.Path.{_≡_, refl}
+use mathlib.Core.Bool.{Bool, true, false}
+use mathlib.Core.List.{List}
+use lib.ListN.{length, getD, set}
+use Rattle.model.specs.declared.Kind.{Kind}
+use Rattle.model.specs.declared.Kind.the-variants.{Traced, Untraced}
+use Rattle.model.specs.declared.Refusal.{Refusal}
+use Rattle.model.specs.declared.Answer.{Answer}
+use Rattle.model.specs.declared.Call.{Call}
+use Rattle.model.specs.declared.Refusal.the-variants as Why
+use Rattle.model.specs.declared.Answer.the-variants as Says
+use Rattle.model.specs.declared.Call.the-variants as Ask
+use Rattle.model.specs.Graph.{Plain, integer, null, Value, plain, object, Object, traced, untraced, Graph, nth, rootValue, liveᵍ}
+use Rattle.model.specs.GraphCalls.{Outcomeᵍ, saysᵍ, refuseᵍ, withRootᵍ, withObject, grown, sameValue, byKind, onObject, plainAnswer, inspected, stepᵍ}
+use Rattle.model.proofs.PlainAnswers.{Plainly, plainly, either-plainly, object-plainly, plain-plainly}
+use Rattle.model.proofs.Tests.{cond-holds}
+
+-- the refusals that a graph can give
+abbrev pub ofGraph : Refusal → Bool
+ofGraph Why.Shape = false
+ofGraph Why.Root = true
+ofGraph Why.Count = true
+ofGraph Why.Range = true
+ofGraph Why.Object = true
+ofGraph Why.Kind = true
+ofGraph Why.Field = true
+ofGraph Why.Damaged = false
+ofGraph Why.Room = false
+
+-- the answers that change nothing, and the changes, each with what the call knows of its object
+pub record Keptᵍ (g : Graph) (P : Outcomeᵍ → Type 0) : Type 0 where
+  pub refused : (k : Refusal) → ofGraph k ≡ true → P (saysᵍ (Says.Refused k) g)
+  pub answered : (a : Answer) → Plainly a → P (saysᵍ a g)
+  pub set-plain : (r : ℕ) (p : Plain) → P (saysᵍ Says.Done (withRootᵍ g r (plain p)))
+  pub copied : (from to : ℕ) → P (saysᵍ Says.Done (withRootᵍ g to (rootValue g from)))
+  pub loaded : (i f to : ℕ) (vs : List Value) → nth g i ≡ traced vs → P (saysᵍ Says.Done (withRootᵍ g to (getD vs f (plain null))))
+  pub stored : (i f from : ℕ) (vs : List Value) → nth g i ≡ traced vs → P (saysᵍ Says.Done (withObject g i (traced (set vs f (rootValue g from)))))
+  pub written : (i f x : ℕ) (ws : List ℕ) → P (saysᵍ Says.Done (withObject g i (untraced (set ws f x))))
+  pub allocated : (k : Kind) (n r : ℕ) → P (saysᵍ Says.Done (grown k n r g))
+
+data Holds (P : Outcomeᵍ → Type 0) : Outcomeᵍ → Type 0 where
+  holds : {o : Outcomeᵍ} → P o → Holds P o
+
+module _ (g : Graph) (P : Outcomeᵍ → Type 0) (h : Keptᵍ g P) where
+  after : (b : Bool) (k : Refusal) (o : Outcomeᵍ) → ofGraph k ≡ true → Holds P o → Holds P (refuseᵍ b k g o)
+  unfolding refuseᵍ
+  after b k o e p = cond-holds (Holds P) b _ o (λ t. holds (h .refused k e)) (λ t. p)
+
+  by-kind : (b : Object) (t : List Value → Outcomeᵍ) (u : List ℕ → Outcomeᵍ)
+      → ((vs : List Value) → b ≡ traced vs → Holds P (t vs)) → ((ws : List ℕ) → Holds P (u ws)) → Holds P (byKind b t u)
+  by-kind (traced vs) t u f w = f vs refl
+  by-kind (untraced ws) t u f w = w ws
+
+  on-object : (v : Value) (t : ℕ → List Value → Outcomeᵍ) (u : ℕ → List ℕ → Outcomeᵍ)
+      → ((i : ℕ) (vs : List Value) → nth g i ≡ traced vs → Holds P (t i vs)) → ((i : ℕ) (ws : List ℕ) → Holds P (u i ws)) → Holds P (onObject g v t u)
+  unfolding onObject
+  on-object (plain p) t u f w = holds (h .refused Why.Object refl)
+  on-object (object i) t u f w = by-kind (nth g i) (t i) (u i) (f i) (w i)
+
+  inspects : (v : Value) → Holds P (inspected g v)
+  unfolding inspected
+  inspects (plain p) = holds (h .answered (plainAnswer p) (plain-plainly p))
+  inspects (object i) =
+      by-kind (nth g i) _ _ (λ vs e. holds (h .answered _ (object-plainly Traced (length vs)))) (λ ws. holds (h .answered _ (object-plainly Untraced (length ws))))
+
+  step-holds : (c : Call) → Holds P (stepᵍ c g)
+  unfolding stepᵍ
+  step-holds Ask.Collect = holds (h .answered _ (plainly (Says.Live (liveᵍ g)) refl))
+  step-holds Ask.Check = holds (h .answered _ (plainly Says.Sound refl))
+  step-holds (Ask.Allocate k n r) = after _ Why.Root _ refl (after _ Why.Count _ refl (holds (h .allocated k n r)))
+  step-holds (Ask.SetInteger r v) = after _ Why.Root _ refl (after _ Why.Range _ refl (holds (h .set-plain r (integer v))))
+  step-holds (Ask.SetNull r) = after _ Why.Root _ refl (holds (h .set-plain r null))
+  step-holds (Ask.Copy from to) = after _ Why.Root _ refl (holds (h .copied from to))
+  step-holds (Ask.Load r f to) =
+      after _ Why.Root _ refl (on-object (rootValue g r) _ _ (λ i vs e. after _ Why.Field _ refl (holds (h .loaded i f to vs e))) (λ i ws. holds (h .refused Why.Kind refl)))
+  step-holds (Ask.Store r f from) =
+      after _ Why.Root _ refl (on-object (rootValue g r) _ _ (λ i vs e. after _ Why.Field _ refl (holds (h .stored i f from vs e))) (λ i ws. holds (h .refused Why.Kind refl)))
+  step-holds (Ask.RawRead r f) =
+      after _ Why.Root _ refl (on-object (rootValue g r) _ _ (λ i vs e. holds (h .refused Why.Kind refl))
+      (λ i ws. after _ Why.Field _ refl (holds (h .answered _ (plainly (Says.Number (getD ws f 0)) refl)))))
+  step-holds (Ask.RawWrite r f x) =
+      after _ Why.Root _ refl (on-object (rootValue g r) _ _ (λ i vs e. holds (h .refused Why.Kind refl)) (λ i ws. after _ Why.Field _ refl (holds (h .written i f x ws))))
+  step-holds (Ask.Same r q) =
+      after _ Why.Root _ refl (holds (h .answered _ (either-plainly (sameValue (rootValue g r) (rootValue g q)) Says.Yes Says.No refl refl)))
+  step-holds (Ask.Inspect r) = after _ Why.Root _ refl (inspects (rootValue g r))
+
+  pub graph-step : (c : Call) → P (stepᵍ c g)
+  graph-step c = go (stepᵍ c g) (step-holds c)
+    where
+      go : (o : Outcomeᵍ) → Holds P o → P o
+      go o (holds p) = p

@@ -1,0 +1,120 @@
+-- What a session call leaves: a property that a state has, and that each change which a call can make keeps, holds of what any
+-- call leaves. One walk through the calls for every such property. Assumes nothing.
+use Prim.Native.Nat.{ℕ, _≤_, _<_}
+use mathlib.Core.Path.{_≡_}
+use mathlib.Core.Bool.{Bool, true, false, not}
+use lib.Dec.{leb}
+use lib.IntN.{ℤ}
+use lib.ListN.{length}
+use borrow.Author.Tests.{ltb-false, leb-false, not-false}
+use Rattle.model.specs.declared.Kind.{Kind}
+use Rattle.model.specs.declared.Kind.the-variants.{Traced, Untraced}
+use Rattle.model.specs.declared.Refusal.{Refusal}
+use Rattle.model.specs.declared.Call.{Call}
+use Rattle.model.specs.declared.Refusal.the-variants as Why
+use Rattle.model.specs.declared.Call.the-variants as Ask
+use Rattle.model.specs.Answers.{Outcome, refuse}
+use Rattle.model.specs.Calls as Calls
+use Rattle.model.specs.Calls.{isOfKind, onField}
+use Rattle.model.specs.Changes.{noRoot, rootWord, withRoot, withWord, fits, placed}
+use Rattle.model.specs.Collection.{collected}
+use Rattle.model.specs.Headers.{Layout}
+use Rattle.model.specs.Limits.{maxFields}
+use Rattle.model.specs.Objects.{fieldIndex, index, kind, fieldCount, names}
+use Rattle.model.specs.Sessions.{step}
+use Rattle.model.specs.Shape.{badShape}
+use Rattle.model.specs.Soundness.{sound}
+use Rattle.model.specs.Values.{isOdd, isNull, inRange, tag}
+use Rattle.model.specs.Words.{State, at}
+use Rattle.model.proofs.Objects.{kind-same}
+use Rattle.model.proofs.Tests.{cond-holds, or-none}
+
+-- root r is there and names an object of kind k that has a field f
+pub record HasField (Y : Layout) (s : State) (k : Kind) (r f : ℕ) : Type 0 where
+  pub root : r < length (s .roots)
+  pub named : names Y s (rootWord s r) ≡ true
+  pub kind-is : kind Y (s .heap) (index Y (rootWord s r)) ≡ k
+  pub below : f < fieldCount Y (s .heap) (index Y (rootWord s r))
+
+-- the changes, each with what the call has tested before it
+pub record Kept (Y : Layout) (s : State) (P : State → Type 0) : Type 0 where
+  pub itself : P s
+  pub integer : (r : ℕ) (v : ℤ) → inRange v ≡ true → P (withRoot s r (tag v))
+  pub null : (r : ℕ) → P (withRoot s r 0)
+  pub copied : (from to : ℕ) → from < length (s .roots) → P (withRoot s to (rootWord s from))
+  pub loaded : (r f to : ℕ) → HasField Y s Traced r f → P (withRoot s to (at (s .heap) (fieldIndex (index Y (rootWord s r)) f)))
+  pub stored : (r f from : ℕ) → HasField Y s Traced r f → from < length (s .roots) → P (withWord s (fieldIndex (index Y (rootWord s r)) f) (rootWord s from))
+  pub written : (r f x : ℕ) → HasField Y s Untraced r f → P (withWord s (fieldIndex (index Y (rootWord s r)) f) x)
+  pub placedNow : (k : Kind) (n r : ℕ) → badShape s ≡ false → n ≤ maxFields → fits n s ≡ true → P (placed Y k n r s)
+  pub collectedNow : sound Y s ≡ true → P (collected Y s)
+  pub placedThen : (k : Kind) (n r : ℕ) → sound Y s ≡ true → n ≤ maxFields → fits n (collected Y s) ≡ true → P (placed Y k n r (collected Y s))
+
+data Leaves (P : State → Type 0) : Outcome → Type 0 where
+  leaves : {o : Outcome} → P (o .left) → Leaves P o
+
+refuse-leaves : (P : State → Type 0) (b : Bool) (k : Refusal) (s : State) (o : Outcome) → P s → (b ≡ false → Leaves P o) → Leaves P (refuse b k s o)
+unfolding refuse
+refuse-leaves P b k s o p f = cond-holds (Leaves P) b _ o (λ e. leaves p) f
+
+module _ (Y : Layout) (s : State) (P : State → Type 0) (h : Kept Y s P) where
+  legal-root : (r : ℕ) → noRoot s r ≡ false → r < length (s .roots)
+  legal-root r e = leb-false (length (s .roots)) r e
+
+  -- a test that refuses and changes nothing
+  after : (b : Bool) (k : Refusal) (o : Outcome) → (b ≡ false → Leaves P o) → Leaves P (refuse b k s o)
+  after b k o f = refuse-leaves P b k s o (h .itself) f
+
+  on-field : (k : Kind) (r f : ℕ) (o : Outcome) → r < length (s .roots) → (HasField Y s k r f → Leaves P o) → Leaves P (onField Y k (rootWord s r) f s o)
+  on-field k r f o l g =
+      let i = index Y (rootWord s r) in
+      after (not (names Y s (rootWord s r))) Why.Object _ (λ a.
+      after (not (isOfKind k (kind Y (s .heap) i))) Why.Kind _ (λ b.
+      after (leb (fieldCount Y (s .heap) i) f) Why.Field o (λ c.
+      g (record {
+        root = l;
+        named = not-false (names Y s (rootWord s r)) a;
+        kind-is = kind-same k (kind Y (s .heap) i) (not-false (isOfKind k (kind Y (s .heap) i)) b);
+        below = leb-false (fieldCount Y (s .heap) i) f c;
+      }))))
+
+  step-leaves : (c : Call) → Leaves P (step Y c s)
+  unfolding step Calls.collect Calls.check Calls.allocate Calls.setInteger Calls.setNull Calls.copy Calls.load Calls.store Calls.rawRead Calls.rawWrite Calls.same Calls.inspect
+  step-leaves Ask.Collect = after _ Why.Shape _ (λ a. after _ Why.Damaged _ (λ b. leaves (h .collectedNow (not-false (sound Y s) b))))
+  step-leaves Ask.Check = after _ Why.Shape _ (λ a. leaves (h .itself))
+  step-leaves (Ask.Allocate k n r) =
+      after _ Why.Shape _ (λ a. after _ Why.Root _ (λ b. after _ Why.Count _ (λ c.
+      let small : n ≤ maxFields = ltb-false maxFields n c in
+      cond-holds (Leaves P) (fits n s) _ _
+      (λ d. leaves (h .placedNow k n r a small d))
+      (λ d. after _ Why.Damaged _ (λ e.
+      let good = not-false (sound Y s) e in
+      refuse-leaves P _ Why.Room (collected Y s) _ (h .collectedNow good) (λ f.
+      leaves (h .placedThen k n r good small (not-false (fits n (collected Y s)) f))))))))
+  step-leaves (Ask.SetInteger r v) =
+      after _ Why.Shape _ (λ a. after _ Why.Root _ (λ b. after _ Why.Range _ (λ c. leaves (h .integer r v (not-false (inRange v) c)))))
+  step-leaves (Ask.SetNull r) = after _ Why.Shape _ (λ a. after _ Why.Root _ (λ b. leaves (h .null r)))
+  step-leaves (Ask.Copy from to) =
+      after _ Why.Shape _ (λ a. after _ Why.Root _ (λ b. leaves (h .copied from to (legal-root from (or-none (noRoot s from) (noRoot s to) b .0)))))
+  step-leaves (Ask.Load r f to) =
+      after _ Why.Shape _ (λ a. after _ Why.Root _ (λ b.
+      on-field Traced r f _ (legal-root r (or-none (noRoot s r) (noRoot s to) b .0)) (λ g. leaves (h .loaded r f to g))))
+  step-leaves (Ask.Store r f from) =
+      after _ Why.Shape _ (λ a. after _ Why.Root _ (λ b.
+      let c = or-none (noRoot s r) (noRoot s from) b in
+      on-field Traced r f _ (legal-root r (c .0)) (λ g. leaves (h .stored r f from g (legal-root from (c .1))))))
+  step-leaves (Ask.RawRead r f) =
+      after _ Why.Shape _ (λ a. after _ Why.Root _ (λ b. on-field Untraced r f _ (legal-root r b) (λ g. leaves (h .itself))))
+  step-leaves (Ask.RawWrite r f x) =
+      after _ Why.Shape _ (λ a. after _ Why.Root _ (λ b. on-field Untraced r f _ (legal-root r b) (λ g. leaves (h .written r f x g))))
+  step-leaves (Ask.Same r q) = after _ Why.Shape _ (λ a. after _ Why.Root _ (λ b. leaves (h .itself)))
+  step-leaves (Ask.Inspect r) =
+      after _ Why.Shape _ (λ a. after _ Why.Root _ (λ b.
+      cond-holds (Leaves P) (isOdd (rootWord s r)) _ _ (λ c. leaves (h .itself)) (λ c.
+      cond-holds (Leaves P) (isNull (rootWord s r)) _ _ (λ d. leaves (h .itself)) (λ d.
+      after _ Why.Object _ (λ e. leaves (h .itself))))))
+
+  pub step-left : (c : Call) → P (step Y c s .left)
+  step-left c = go (step Y c s) (step-leaves c)
+    where
+      go : (o : Outcome) → Leaves P o → P (o .left)
+      go o (leaves p) = p
