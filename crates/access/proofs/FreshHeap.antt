@@ -12,8 +12,8 @@ use Rattle.model.specs.Words.{State, lent}
 use Rattle.model.specs.Shape.{badLength}
 use Rattle.model.specs.Answers.{says}
 use Rattle.model.specs.Calls as Calls
-use Rattle.words.specs.Runs.{cleared}
-use Rattle.words.proofs.RunLaws.{cleared-length, cleared-inside}
+use Rattle.runs.specs.Runs.{cleared}
+use Rattle.runs.proofs.RunLaws.{cleared-length, cleared-inside}
 use Rattle.access.proofs.Refusing.{passes}
 
 cleared-all : (h : List ℕ) → cleared h 0 (length h) ≡ replicate (length h) 0

@@ -10,7 +10,7 @@ use model::Half;
 use model::Index;
 use model::Record;
 use model::Refusal;
-use words::runs::clear;
+use runs::clear;
 use words::shape::bad_length;
 
 // Clears all heap words, and answers with half A and free index 1: done, or the heap-length part of SHAPE, and then the

@@ -4,8 +4,8 @@ use model::Half;
 use model::Index;
 use model::Kind;
 use model::Record;
-use session::step::step;
-use words::numbers::told;
+use session::step;
+use numbers::told;
 
 pub fn start(free: usize) -> Record {
     Record {

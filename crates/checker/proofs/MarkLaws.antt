@@ -19,8 +19,8 @@ use Rattle.model.proofs.Retiling.{tiles-same}
 use Rattle.model.proofs.Tests.{by-test, same?}
 use Rattle.model.proofs.Tiling.{tiles-step, headers-tile}
 use Rattle.model.proofs.Walks.{tiles-past}
-use Rattle.words.specs.Runs.{run}
-use Rattle.words.proofs.RunLaws.{Outside, Apart}
+use Rattle.runs.specs.Runs.{run}
+use Rattle.runs.proofs.RunLaws.{Outside, Apart}
 use Rattle.checker.specs.declared.Part.{Part}
 use Rattle.checker.specs.Marks.{usedWords, markAt, Marking, markHeaders, isTiledPart, headersOf}
 use Rattle.checker.proofs.Turns.{mark-ended}

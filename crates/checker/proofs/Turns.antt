@@ -13,7 +13,7 @@ use Rattle.model.specs.Headers.{Layout}
 use Rattle.model.specs.Objects.{isTraced, index, kind, fieldCount, size}
 use Rattle.model.specs.Soundness.{all}
 use Rattle.model.specs.Words.{at}
-use Rattle.words.specs.Runs.{run}
+use Rattle.runs.specs.Runs.{run}
 use Rattle.checker.specs.declared.Part.{Part}
 use Rattle.checker.specs.Marks.{markAt, marking, markHeaders, isValueByMarks, fieldsAreValuesByMarks}
 

@@ -11,8 +11,8 @@ ghost use Rattle.model.specs.Limits.{maxHalf};
 ghost use Rattle.model.specs.Objects.{size};
 ghost use Rattle.model.specs.Soundness.{all, sound};
 ghost use Rattle.model.specs.Words.{lent};
-ghost use Rattle.words.specs.Runs.{run, cleared};
-ghost use Rattle.words.proofs.RunLaws.{Apart};
+ghost use Rattle.runs.specs.Runs.{run, cleared};
+ghost use Rattle.runs.proofs.RunLaws.{Apart};
 ghost use Rattle.checker.specs.Marks.{Fits, Halves, usedWords, partOf, marking, marked, isTiledPart, headersOf, isZeroAround, isValueByMarks, fieldsAreValuesByMarks, allAreValuesByMarks, usedPartSound};
 use model::Address;
 use model::Answer;
@@ -20,7 +20,6 @@ use model::Answered;
 use model::Index;
 use model::Record;
 use model::Refusal;
-use words::runs;
 use words::shape;
 use words::tuple::Tuple;
 

@@ -1,77 +1,36 @@
-// Cheney's collection of a sound heap: the roots renamed, the copies scanned until none is left to scan, the old words cleared.
-// It is proved equal to the definition of a collection, which knows of no algorithm.
+// Collect: the check first, since a collection of a heap that is not sound could do anything.
 ghost use mathlib.Core.Path.{_≡_};
-ghost use mathlib.Core.Bool.{true};
-ghost use Rattle.model.specs.Headers.{tuple};
 ghost use Rattle.model.specs.Words.{lent};
-ghost use Rattle.model.specs.Soundness.{sound};
-ghost use Rattle.model.specs.Collection.{live, collected};
-ghost use Rattle.model.specs.Answers.{says};
-ghost use Rattle.model.specs.declared.Answer.the-variants as Says;
-ghost use Rattle.collector.specs.Evacuation.{emptied, rooted, SafeRoots, evacuated, SafeEvacuation};
-
-mod moving;
-mod scanning;
-
-use model::Index;
+ghost use Rattle.model.specs.Headers as Layouts;
+ghost use Rattle.model.specs.Answers.{outcome};
+ghost use Rattle.model.specs.Calls as Calls;
+use model::Answer;
+use model::Answered;
 use model::Record;
-use words::runs;
-use words::shape;
+use model::Refusal;
 
-// What a collection leaves besides the words: the words of the copies, and the record.
-pub struct Collected {
-    pub live: u32,
-    pub record: Record,
-}
-
-// Renames the roots by rising number. Answers the next free word.
-fn visit_roots(heap: &mut [u32], roots: &mut [u32], new: Index) -> Index
-    requires { ⌜ SafeRoots tuple (now heap) (now roots) (new .0) ⌝ }
-    ensures { λ r. ⌜ emptied (now (heap .exit)) (now (roots .exit)) (r .0) ≡ rooted tuple (now (heap .entry)) (now (roots .entry)) (new .0) ⌝ }
+// Copies what the roots reach to the other half, and clears this one: the live words, or SHAPE or DAMAGED. Every object
+// may move; the roots follow.
+pub fn collect(heap: &mut [u32], roots: &mut [u32], record: Record) -> Answered
+    ensures { λ r. ⌜ outcome r (now (heap .exit)) (now (roots .exit)) ≡ Calls.collect Layouts.tuple (lent (now (heap .entry)) (now (roots .entry)) «record») ⌝ }
 {
-    let mut free = new;
-    let mut i: usize = 0;
-    while i < roots.len() {
-        let word = roots[i];
-        let m = moving::rename(heap, word, free);
-        roots[i] = m.word;
-        free = m.free;
-        i += 1;
+    if words::shape::bad_shape(heap.len(), roots.len(), record) {
+        return Answered {
+            answer: Answer::Refused(Refusal::Shape),
+            record,
+        };
     }
-    free
-}
-
-// Copies what the roots reach from the `used` words at `old` to the words at `new`, and clears the old ones.
-// Answers the word past the copies.
-fn evacuate(heap: &mut [u32], roots: &mut [u32], old: Index, used: usize, new: Index) -> Index
-    requires { ⌜ SafeEvacuation tuple (now heap) (now roots) (old .0) used (new .0) ⌝ }
-    ensures { λ r. ⌜ emptied (now (heap .exit)) (now (roots .exit)) (r .0) ≡ evacuated tuple (now (heap .entry)) (now (roots .entry)) (old .0) used (new .0) ⌝ }
-{
-    let free = visit_roots(heap, roots, new);
-    let end = scanning::pass_objects(heap, new, free);
-    runs::clear(heap, old.0, used);
-    end
-}
-
-// Collects a heap that is known to be sound. Past its free index a sound heap is 0 already: only the used words are cleared.
-pub fn collect_sound(heap: &mut [u32], roots: &mut [u32], record: Record) -> Collected
-    requires { ⌜ sound tuple (lent (now heap) (now roots) «record») ≡ true ⌝ }
-    ensures { λ r. ⌜ says (Says.Live (r .live)) (lent (now (heap .exit)) (now (roots .exit)) (r .«record»))
-        ≡ says (Says.Live (live tuple (lent (now (heap .entry)) (now (roots .entry)) «record»))) (collected tuple (lent (now (heap .entry)) (now (roots .entry)) «record»)) ⌝ }
-{
-    let words = (heap.len() - 1) / 2;
-    let half = record.half;
-    let other = shape::other_half(half);
-    let old = shape::first_of(words, half);
-    let new = shape::first_of(words, other);
-    let used = record.free.0 - old.0;
-    let end = evacuate(heap, roots, old, used, new);
-    let live = (end.0 - new.0) as u32;
-    Collected {
-        live,
-        record: Record {
-            half: other,
-            free: end,
-        },
+    if checker::is_sound(heap, roots, record) {
+        let done = engine::collect_sound(heap, roots, record);
+        let live = done.live;
+        let after = done.record;
+        return Answered {
+            answer: Answer::Live(live),
+            record: after,
+        };
+    }
+    Answered {
+        answer: Answer::Refused(Refusal::Damaged),
+        record,
     }
 }

@@ -6,9 +6,9 @@ use model::Half;
 use model::Index;
 use model::Kind;
 use model::Record;
-use objects::fields::store;
-use session::allocate::allocate;
-use session::collect::collect;
+use objects::store;
+use allocator::allocate;
+use collector::collect;
 
 // A traced object of `fields` fields in root `to`, with the integer `value` in one of them, by way of root `by`.
 fn build_one(

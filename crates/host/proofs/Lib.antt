@@ -12,4 +12,3 @@ pub mod ThinRoots2
 pub mod ThinRoots3
 pub mod ThinNeither1
 pub mod ThinNeither2
-pub mod WindowWords

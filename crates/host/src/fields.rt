@@ -20,7 +20,7 @@ pub fn load(
 ) -> Answer
     ensures { λ r. ⌜ says r (lent (now (heap .entry)) (now (roots .exit)) (now («record» .exit))) ≡ Calls.load Layouts.tuple object field to (lent (now (heap .entry)) (now (roots .entry)) (now («record» .entry))) ⌝ }
 {
-    let answered = objects::fields::load(heap, roots, *record, object, field, to);
+    let answered = objects::load(heap, roots, *record, object, field, to);
     *record = answered.record;
     answered.answer
 }
@@ -37,7 +37,7 @@ pub fn store(
 ) -> Answer
     ensures { λ r. ⌜ says r (lent (now (heap .exit)) (now (roots .entry)) (now («record» .exit))) ≡ Calls.store Layouts.tuple object field from (lent (now (heap .entry)) (now (roots .entry)) (now («record» .entry))) ⌝ }
 {
-    let answered = objects::fields::store(heap, roots, *record, object, field, from);
+    let answered = objects::store(heap, roots, *record, object, field, from);
     *record = answered.record;
     answered.answer
 }
@@ -52,7 +52,7 @@ pub fn raw_read(
 ) -> Answer
     ensures { λ r. ⌜ says r (lent (now (heap .entry)) (now (roots .entry)) (now («record» .exit))) ≡ Calls.rawRead Layouts.tuple object field (lent (now (heap .entry)) (now (roots .entry)) (now («record» .entry))) ⌝ }
 {
-    let answered = objects::fields::raw_read(heap, roots, *record, object, field);
+    let answered = objects::raw_read(heap, roots, *record, object, field);
     *record = answered.record;
     answered.answer
 }
@@ -69,7 +69,7 @@ pub fn raw_write(
 ) -> Answer
     ensures { λ r. ⌜ says r (lent (now (heap .exit)) (now (roots .entry)) (now («record» .exit))) ≡ Calls.rawWrite Layouts.tuple object field number (lent (now (heap .entry)) (now (roots .entry)) (now («record» .entry))) ⌝ }
 {
-    let answered = objects::fields::raw_write(heap, roots, *record, object, field, number);
+    let answered = objects::raw_write(heap, roots, *record, object, field, number);
     *record = answered.record;
     answered.answer
 }

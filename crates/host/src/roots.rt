@@ -56,7 +56,7 @@ pub fn same(heap: &[u32], roots: &[u32], record: &mut Record, one: usize, other:
 pub fn inspect(heap: &[u32], roots: &[u32], record: &mut Record, root: usize) -> Answer
     ensures { λ r. ⌜ says r (lent (now (heap .entry)) (now (roots .entry)) (now («record» .exit))) ≡ Calls.inspect Layouts.tuple root (lent (now (heap .entry)) (now (roots .entry)) (now («record» .entry))) ⌝ }
 {
-    let answered = objects::inspect::inspect(heap, roots, *record, root);
+    let answered = views::inspect::inspect(heap, roots, *record, root);
     *record = answered.record;
     answered.answer
 }

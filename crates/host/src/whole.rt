@@ -34,7 +34,7 @@ pub fn check(heap: &mut [u32], roots: &[u32], record: &mut Record) -> Answer
 pub fn collect(heap: &mut [u32], roots: &mut [u32], record: &mut Record) -> Answer
     ensures { λ r. ⌜ says r (lent (now (heap .exit)) (now (roots .exit)) (now («record» .exit))) ≡ Calls.collect Layouts.tuple (lent (now (heap .entry)) (now (roots .entry)) (now («record» .entry))) ⌝ }
 {
-    let answered = session::collect::collect(heap, roots, *record);
+    let answered = collector::collect(heap, roots, *record);
     *record = answered.record;
     answered.answer
 }
@@ -51,7 +51,7 @@ pub fn allocate(
 ) -> Answer
     ensures { λ r. ⌜ says r (lent (now (heap .exit)) (now (roots .exit)) (now («record» .exit))) ≡ Calls.allocate Layouts.tuple kind fields to (lent (now (heap .entry)) (now (roots .entry)) (now («record» .entry))) ⌝ }
 {
-    let answered = session::allocate::allocate(heap, roots, *record, kind, fields, to);
+    let answered = allocator::allocate(heap, roots, *record, kind, fields, to);
     *record = answered.record;
     answered.answer
 }
@@ -60,7 +60,7 @@ pub fn allocate(
 pub fn step(heap: &mut [u32], roots: &mut [u32], record: &mut Record, call: Call) -> Answer
     ensures { λ r. ⌜ says r (lent (now (heap .exit)) (now (roots .exit)) (now («record» .exit))) ≡ Sessions.step Layouts.tuple call (lent (now (heap .entry)) (now (roots .entry)) (now («record» .entry))) ⌝ }
 {
-    let answered = session::step::step(heap, roots, *record, call);
+    let answered = session::step(heap, roots, *record, call);
     *record = answered.record;
     answered.answer
 }

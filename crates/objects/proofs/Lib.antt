@@ -1,3 +1,1 @@
-pub mod NamedObjects
-pub mod Inspecting
 pub mod ReachedFields

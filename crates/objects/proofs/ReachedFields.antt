@@ -19,10 +19,11 @@ use Rattle.model.specs.Shape.{badShape}
 use Rattle.model.specs.Answers.{Outcome, says, refuse}
 use Rattle.model.specs.Changes.{noRoot, rootWord, withRoot, withWord}
 use Rattle.model.specs.Calls.{isOfKind, onField, load, store, rawRead, rawWrite}
-use Rattle.objects.specs.declared.naming.Field.{Field}
-use Rattle.objects.specs.declared.naming.Field.the-variants.{At, Refused}
-use Rattle.objects.specs.Leaves.{fieldOf, reached}
-use Rattle.objects.proofs.NamedObjects.{free-in-heap, named-ends}
+use Rattle.naming.specs.declared.Field.{Field}
+use Rattle.naming.specs.declared.Field.the-variants.{At, Refused}
+use Rattle.naming.specs.Named.{fieldOf}
+use Rattle.objects.specs.Reached.{reached}
+use Rattle.naming.proofs.NamedObjects.{free-in-heap, named-ends}
 use Rattle.access.proofs.RootNumbers.{both-below}
 
 -- what a call comes to that does `next` with the index of its field
@@ -57,13 +58,6 @@ pub record Reaches (s : State) (r q : ℕ) (i : Index) : Type 0 where
   pub other : q < length (s .roots)
 
 module _ (Y : Layout) where
-  -- the field by its three tests, whatever each comes to, at the header's index as the code has it
-  pub field-tests : {a b c : Bool} (k : Kind) (w f i : ℕ) (s : State) → i ≡ index Y w
-      → not (names Y s w) ≡ a → not (isOfKind k (kind Y (s .heap) i)) ≡ b → leb (fieldCount Y (s .heap) i) f ≡ c
-      → cond a (Refused Why.Object) (cond b (Refused Why.Kind) (cond c (Refused Why.Field) (At (record { 0 = fieldIndex i f })))) ≡ fieldOf Y k w f s
-  unfolding fieldOf
-  field-tests k w f i s e pa pb pc = simp (sym e, pa, pb, pc)
-
   on-reached : (k : Kind) (r f q : ℕ) (s : State) (next : ℕ → Outcome)
       → refuse (badShape s) Why.Shape s
       (refuse (noRoot s r || noRoot s q) Why.Root s

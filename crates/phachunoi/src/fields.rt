@@ -3,14 +3,14 @@
 ghost use mathlib.Core.Path.{_≡_};
 ghost use Rattle.model.specs.Headers as Layouts;
 ghost use Rattle.model.specs.Calls as Calls;
-ghost use Rattle.phachunoi.specs.Numbers as Numbers;
-ghost use Rattle.phachunoi.specs.Numbers.{given, called};
-use super::numbers::CAnswer;
-use super::numbers::CRecord;
-use super::numbers::CResult;
-use super::numbers::answer;
-use super::numbers::record_of;
-use super::numbers::result;
+ghost use Rattle.crossing.specs.Numbers as Numbers;
+ghost use Rattle.crossing.specs.Numbers.{given, called};
+use crossing::CAnswer;
+use crossing::CRecord;
+use crossing::CResult;
+use crossing::answer;
+use crossing::record_of;
+use crossing::result;
 
 // Root `to` gets the word in a field of a traced object.
 #[no_mangle]
@@ -24,7 +24,7 @@ pub extern "C" fn phachunoi_load(
 ) -> CResult
     ensures { λ r. ⌜ given r (now (heap .entry)) (now (roots .exit)) ≡ called Numbers.result (Calls.load Layouts.tuple object field to) (now (heap .entry)) (now (roots .entry)) «record» ⌝ }
 {
-    let done = objects::fields::load(heap, roots, record_of(record), object, field, to);
+    let done = objects::load(heap, roots, record_of(record), object, field, to);
     result(record, done)
 }
 
@@ -40,7 +40,7 @@ pub extern "C" fn phachunoi_store(
 ) -> CResult
     ensures { λ r. ⌜ given r (now (heap .exit)) (now (roots .entry)) ≡ called Numbers.result (Calls.store Layouts.tuple object field from) (now (heap .entry)) (now (roots .entry)) «record» ⌝ }
 {
-    let done = objects::fields::store(heap, roots, record_of(record), object, field, from);
+    let done = objects::store(heap, roots, record_of(record), object, field, from);
     result(record, done)
 }
 
@@ -55,7 +55,7 @@ pub extern "C" fn phachunoi_raw_read(
 ) -> CAnswer
     ensures { λ r. ⌜ given r (now (heap .entry)) (now (roots .entry)) ≡ called (λ t c. Numbers.answer t) (Calls.rawRead Layouts.tuple object field) (now (heap .entry)) (now (roots .entry)) «record» ⌝ }
 {
-    let done = objects::fields::raw_read(heap, roots, record_of(record), object, field);
+    let done = objects::raw_read(heap, roots, record_of(record), object, field);
     let said = done.answer;
     answer(said)
 }
@@ -72,6 +72,6 @@ pub extern "C" fn phachunoi_raw_write(
 ) -> CResult
     ensures { λ r. ⌜ given r (now (heap .exit)) (now (roots .entry)) ≡ called Numbers.result (Calls.rawWrite Layouts.tuple object field number) (now (heap .entry)) (now (roots .entry)) «record» ⌝ }
 {
-    let done = objects::fields::raw_write(heap, roots, record_of(record), object, field, number);
+    let done = objects::raw_write(heap, roots, record_of(record), object, field, number);
     result(record, done)
 }

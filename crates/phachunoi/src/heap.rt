@@ -4,15 +4,15 @@ ghost use mathlib.Core.List.{[]};
 ghost use Rattle.model.specs.declared.Kind.the-variants.{Traced, Untraced};
 ghost use Rattle.model.specs.Headers as Layouts;
 ghost use Rattle.model.specs.Calls as Calls;
-ghost use Rattle.phachunoi.specs.Numbers as Numbers;
-ghost use Rattle.phachunoi.specs.Numbers.{given, called, begun};
-use super::numbers::CCollected;
-use super::numbers::CRecord;
-use super::numbers::CResult;
-use super::numbers::collected;
-use super::numbers::fresh_result;
-use super::numbers::record_of;
-use super::numbers::result;
+ghost use Rattle.crossing.specs.Numbers as Numbers;
+ghost use Rattle.crossing.specs.Numbers.{given, called, begun};
+use crossing::CCollected;
+use crossing::CRecord;
+use crossing::CResult;
+use crossing::collected;
+use crossing::fresh_result;
+use crossing::record_of;
+use crossing::result;
 use model::Kind;
 
 // Clears all heap words; half A, free index 1. SHAPE is of the heap's length alone, and hands the record back as it came.
@@ -43,7 +43,7 @@ pub extern "C" fn phachunoi_collect(
 ) -> CCollected
     ensures { λ r. ⌜ given r (now (heap .exit)) (now (roots .exit)) ≡ called Numbers.collected (Calls.collect Layouts.tuple) (now (heap .entry)) (now (roots .entry)) «record» ⌝ }
 {
-    let done = session::collect::collect(heap, roots, record_of(record));
+    let done = collector::collect(heap, roots, record_of(record));
     collected(record, done)
 }
 
@@ -58,7 +58,7 @@ pub extern "C" fn phachunoi_allocate_traced(
 ) -> CResult
     ensures { λ r. ⌜ given r (now (heap .exit)) (now (roots .exit)) ≡ called Numbers.result (Calls.allocate Layouts.tuple Traced fields to) (now (heap .entry)) (now (roots .entry)) «record» ⌝ }
 {
-    let done = session::allocate::allocate(
+    let done = allocator::allocate(
         heap,
         roots,
         record_of(record),
@@ -80,7 +80,7 @@ pub extern "C" fn phachunoi_allocate_untraced(
 ) -> CResult
     ensures { λ r. ⌜ given r (now (heap .exit)) (now (roots .exit)) ≡ called Numbers.result (Calls.allocate Layouts.tuple Untraced fields to) (now (heap .entry)) (now (roots .entry)) «record» ⌝ }
 {
-    let done = session::allocate::allocate(
+    let done = allocator::allocate(
         heap,
         roots,
         record_of(record),

@@ -2,16 +2,16 @@
 ghost use mathlib.Core.Path.{_≡_};
 ghost use Rattle.model.specs.Headers as Layouts;
 ghost use Rattle.model.specs.Calls as Calls;
-ghost use Rattle.phachunoi.specs.Numbers as Numbers;
-ghost use Rattle.phachunoi.specs.Numbers.{given, called};
-use super::numbers::CAnswer;
-use super::numbers::CRecord;
-use super::numbers::CResult;
-use super::numbers::CSeen;
-use super::numbers::answer;
-use super::numbers::record_of;
-use super::numbers::result;
-use super::numbers::seen;
+ghost use Rattle.crossing.specs.Numbers as Numbers;
+ghost use Rattle.crossing.specs.Numbers.{given, called};
+use crossing::CAnswer;
+use crossing::CRecord;
+use crossing::CResult;
+use crossing::CSeen;
+use crossing::answer;
+use crossing::record_of;
+use crossing::result;
+use crossing::seen;
 
 // Root `to` gets an integer; or SHAPE, ROOT or RANGE.
 #[no_mangle]
@@ -83,7 +83,7 @@ pub extern "C" fn phachunoi_inspect(
 ) -> CSeen
     ensures { λ r. ⌜ given r (now (heap .entry)) (now (roots .entry)) ≡ called (λ t c. Numbers.seen t) (Calls.inspect Layouts.tuple root) (now (heap .entry)) (now (roots .entry)) «record» ⌝ }
 {
-    let done = objects::inspect::inspect(heap, roots, record_of(record), root);
+    let done = views::inspect::inspect(heap, roots, record_of(record), root);
     let said = done.answer;
     seen(said)
 }

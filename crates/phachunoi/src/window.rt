@@ -4,13 +4,13 @@ ghost use mathlib.Core.Path.{_≡_};
 ghost use Rattle.model.specs.Headers as Layouts;
 ghost use Rattle.model.specs.Answers.{told};
 ghost use Rattle.model.specs.Window.{window};
-ghost use Rattle.phachunoi.specs.Numbers as Numbers;
-use super::numbers::CAnswer;
-use super::numbers::CRecord;
-use super::numbers::CWindow;
-use super::numbers::answer;
-use super::numbers::record_of;
-use super::numbers::window_of;
+ghost use Rattle.crossing.specs.Numbers as Numbers;
+use crossing::CAnswer;
+use crossing::CRecord;
+use crossing::CWindow;
+use crossing::answer;
+use crossing::record_of;
+use crossing::window_of;
 use model::Answer;
 use model::Refusal;
 
@@ -24,7 +24,7 @@ pub extern "C" fn phachunoi_open(
 ) -> CWindow
     ensures { λ r. ⌜ r ≡ Numbers.opened (window Layouts.tuple object) (now (heap .entry)) (now (roots .entry)) «record» ⌝ }
 {
-    let place = objects::window::find(heap, roots, record_of(record), object);
+    let place = views::window::find(heap, roots, record_of(record), object);
     window_of(place)
 }
 

@@ -1,5 +1,3 @@
-// Leaves that every crate above shares: the limits, halves, SHAPE; words; the tuple layout; runs of words; answers in numbers.
-pub mod numbers;
-pub mod runs;
+// Leaves that every crate above shares: the limits, halves and SHAPE; the tuple layout.
 pub mod shape;
 pub mod tuple;

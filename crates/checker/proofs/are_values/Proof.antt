@@ -6,7 +6,7 @@ use mathlib.Core.Path.{_≡_, sym, _∙_}
 use borrow.Author.Tests.{not-true, not-false}
 use Rattle.model.specs.Headers.{tuple}
 use Rattle.model.specs.Soundness.{all}
-use Rattle.words.specs.Runs.{run}
+use Rattle.runs.specs.Runs.{run}
 use Rattle.checker.specs.Marks.{isValueByMarks}
 use Rattle.checker.proofs.Turns.{run-passed, run-failed, run-ended}
 use Rattle.checker.proofs.are_values.Statement.{statement}

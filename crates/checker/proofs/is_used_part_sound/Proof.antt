@@ -5,7 +5,7 @@ use Rattle.checker.proofs.is_used_part_sound.Tie as tie
 use Rattle.checker.proofs.is_used_part_sound.Reads as reads
 use Rattle.checker.proofs.is_used_part_sound.Lts as lts
 use Rattle.checker.proofs.mark_and_test.Reads as mark-and-test-reads
-use Rattle.words.proofs.runs.clear.Reads as clear-reads
+use Rattle.runs.proofs.clear.Reads as clear-reads
 
 sub-used-words : tie.Need-sub-used-words
 sub-used-words c = search needs

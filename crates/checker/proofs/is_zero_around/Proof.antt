@@ -7,7 +7,7 @@ use Rattle.checker.proofs.is_zero_around.Statement.{statement}
 use Rattle.checker.proofs.is_zero_around.Tie as tie
 use Rattle.checker.proofs.is_zero_around.Reads as reads
 use Rattle.checker.proofs.is_zero_around.Lts as lts
-use Rattle.words.proofs.runs.all_zero.Reads as all-zero-reads
+use Rattle.runs.proofs.all_zero.Reads as all-zero-reads
 
 shared-slice-read-if1 : tie.Need-shared-slice-read-if1
 shared-slice-read-if1 c = search needs

@@ -10,7 +10,7 @@ use Rattle.access.proofs.fresh.fresh.Tie as tie
 use Rattle.access.proofs.fresh.fresh.Reads as reads
 use Rattle.access.proofs.fresh.fresh.Lts as lts
 use Rattle.access.proofs.answers.say.Reads as say-reads
-use Rattle.words.proofs.runs.clear.Reads as clear-reads
+use Rattle.runs.proofs.clear.Reads as clear-reads
 use Rattle.words.proofs.shape.bad_length.Reads as bad-length-reads
 
 bad-length-requires : tie.Need-bad-length-requires

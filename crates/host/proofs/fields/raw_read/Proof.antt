@@ -9,10 +9,10 @@ use Rattle.model.specs.Answers.{says}
 use Rattle.model.specs.Calls as Calls
 use Rattle.host.proofs.ByValueTypes.{answered, usize-by-value}
 use Rattle.host.proofs.ThinNeither2 as walk
-use Rattle.objects.proofs.fields.raw_read as callee
-use Rattle.objects.proofs.fields.raw_read.Symbol as callee-def
-use Rattle.objects.proofs.fields.raw_read.Symbol.{name as #callee}
-use Rattle.objects.proofs.fields.raw_read.Met as callee-thm
+use Rattle.objects.proofs.raw_read as callee
+use Rattle.objects.proofs.raw_read.Symbol as callee-def
+use Rattle.objects.proofs.raw_read.Symbol.{name as #callee}
+use Rattle.objects.proofs.raw_read.Met as callee-thm
 use Rattle.host.proofs.fields.raw_read.Key.{name as #self}
 use Rattle.host.proofs.fields.raw_read as self
 use Rattle.host.proofs.fields.raw_read.Statement as stated
@@ -24,4 +24,4 @@ raw-read-spec 𝓤 H 𝓜 𝓖 𝓡 =
     entered 𝓤 H (tripleOf 𝓤 H (𝓖 .A) self.signature (self.spec 𝓤 H (𝓖 .A) (𝓜 .mem) (𝓡 .run)))
     (tables 𝓤 H 𝓜 𝓡 code.env .C) (tables 𝓤 H 𝓜 𝓡 code.env .Λ) #self code.function (code.unfolded 𝓤 H 𝓜 𝓡)
     (walk.thin-meets answered usize-by-value usize-by-value (λ object field heap roots q a q′. says a (lent heap roots q′) ≡ Calls.rawRead Layouts.tuple object field (lent heap roots q)) #callee 𝓤 H (𝓖 .A) (givenOf 𝓤 H 𝓜 𝓖) (tablesOf 𝓤 H 𝓜 (tables 𝓤 H 𝓜 𝓡 code.env))
-    (cited 𝓤 H (tripleOf 𝓤 H (𝓖 .A) callee.signature (callee.spec 𝓤 H (𝓖 .A) (𝓜 .mem) (𝓡 .run))) 𝓜 𝓡 code.env #callee callee-def.routine code.calls-objects·fields·raw-read (callee-thm.met 𝓤 H 𝓜 𝓖 𝓡)))
+    (cited 𝓤 H (tripleOf 𝓤 H (𝓖 .A) callee.signature (callee.spec 𝓤 H (𝓖 .A) (𝓜 .mem) (𝓡 .run))) 𝓜 𝓡 code.env #callee callee-def.routine code.calls-objects·raw-read (callee-thm.met 𝓤 H 𝓜 𝓖 𝓡)))

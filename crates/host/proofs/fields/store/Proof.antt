@@ -9,10 +9,10 @@ use Rattle.model.specs.Answers.{says}
 use Rattle.model.specs.Calls as Calls
 use Rattle.host.proofs.ByValueTypes.{answered, usize-by-value}
 use Rattle.host.proofs.ThinHeap3 as walk
-use Rattle.objects.proofs.fields.store as callee
-use Rattle.objects.proofs.fields.store.Symbol as callee-def
-use Rattle.objects.proofs.fields.store.Symbol.{name as #callee}
-use Rattle.objects.proofs.fields.store.Met as callee-thm
+use Rattle.objects.proofs.store as callee
+use Rattle.objects.proofs.store.Symbol as callee-def
+use Rattle.objects.proofs.store.Symbol.{name as #callee}
+use Rattle.objects.proofs.store.Met as callee-thm
 use Rattle.host.proofs.fields.store.Key.{name as #self}
 use Rattle.host.proofs.fields.store as self
 use Rattle.host.proofs.fields.store.Statement as stated
@@ -24,4 +24,4 @@ store-spec 𝓤 H 𝓜 𝓖 𝓡 =
     entered 𝓤 H (tripleOf 𝓤 H (𝓖 .A) self.signature (self.spec 𝓤 H (𝓖 .A) (𝓜 .mem) (𝓡 .run)))
     (tables 𝓤 H 𝓜 𝓡 code.env .C) (tables 𝓤 H 𝓜 𝓡 code.env .Λ) #self code.function (code.unfolded 𝓤 H 𝓜 𝓡)
     (walk.thin-meets answered usize-by-value usize-by-value usize-by-value (λ object field from heap roots q a heap′ q′. says a (lent heap′ roots q′) ≡ Calls.store Layouts.tuple object field from (lent heap roots q)) #callee 𝓤 H (𝓖 .A) (givenOf 𝓤 H 𝓜 𝓖) (tablesOf 𝓤 H 𝓜 (tables 𝓤 H 𝓜 𝓡 code.env))
-    (cited 𝓤 H (tripleOf 𝓤 H (𝓖 .A) callee.signature (callee.spec 𝓤 H (𝓖 .A) (𝓜 .mem) (𝓡 .run))) 𝓜 𝓡 code.env #callee callee-def.routine code.calls-objects·fields·store (callee-thm.met 𝓤 H 𝓜 𝓖 𝓡)))
+    (cited 𝓤 H (tripleOf 𝓤 H (𝓖 .A) callee.signature (callee.spec 𝓤 H (𝓖 .A) (𝓜 .mem) (𝓡 .run))) 𝓜 𝓡 code.env #callee callee-def.routine code.calls-objects·store (callee-thm.met 𝓤 H 𝓜 𝓖 𝓡)))

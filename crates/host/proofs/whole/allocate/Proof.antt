@@ -9,10 +9,10 @@ use Rattle.model.specs.Answers.{says}
 use Rattle.model.specs.Calls as Calls
 use Rattle.host.proofs.ByValueTypes.{answered, kind-by-value, usize-by-value}
 use Rattle.host.proofs.ThinBoth3 as walk
-use Rattle.session.proofs.allocate.allocate as callee
-use Rattle.session.proofs.allocate.allocate.Symbol as callee-def
-use Rattle.session.proofs.allocate.allocate.Symbol.{name as #callee}
-use Rattle.session.proofs.allocate.allocate.Met as callee-thm
+use Rattle.allocator.proofs.allocate as callee
+use Rattle.allocator.proofs.allocate.Symbol as callee-def
+use Rattle.allocator.proofs.allocate.Symbol.{name as #callee}
+use Rattle.allocator.proofs.allocate.Met as callee-thm
 use Rattle.host.proofs.whole.allocate.Key.{name as #self}
 use Rattle.host.proofs.whole.allocate as self
 use Rattle.host.proofs.whole.allocate.Statement as stated
@@ -24,4 +24,4 @@ allocate-spec 𝓤 H 𝓜 𝓖 𝓡 =
     entered 𝓤 H (tripleOf 𝓤 H (𝓖 .A) self.signature (self.spec 𝓤 H (𝓖 .A) (𝓜 .mem) (𝓡 .run)))
     (tables 𝓤 H 𝓜 𝓡 code.env .C) (tables 𝓤 H 𝓜 𝓡 code.env .Λ) #self code.function (code.unfolded 𝓤 H 𝓜 𝓡)
     (walk.thin-meets answered kind-by-value usize-by-value usize-by-value (λ kind fields to heap roots q a heap′ roots′ q′. says a (lent heap′ roots′ q′) ≡ Calls.allocate Layouts.tuple kind fields to (lent heap roots q)) #callee 𝓤 H (𝓖 .A) (givenOf 𝓤 H 𝓜 𝓖) (tablesOf 𝓤 H 𝓜 (tables 𝓤 H 𝓜 𝓡 code.env))
-    (cited 𝓤 H (tripleOf 𝓤 H (𝓖 .A) callee.signature (callee.spec 𝓤 H (𝓖 .A) (𝓜 .mem) (𝓡 .run))) 𝓜 𝓡 code.env #callee callee-def.routine code.calls-session·allocate·allocate (callee-thm.met 𝓤 H 𝓜 𝓖 𝓡)))
+    (cited 𝓤 H (tripleOf 𝓤 H (𝓖 .A) callee.signature (callee.spec 𝓤 H (𝓖 .A) (𝓜 .mem) (𝓡 .run))) 𝓜 𝓡 code.env #callee callee-def.routine code.calls-allocator·allocate (callee-thm.met 𝓤 H 𝓜 𝓖 𝓡)))

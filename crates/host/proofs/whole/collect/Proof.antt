@@ -9,10 +9,10 @@ use Rattle.model.specs.Answers.{says}
 use Rattle.model.specs.Calls as Calls
 use Rattle.host.proofs.ByValueTypes.{answered}
 use Rattle.host.proofs.ThinBoth0 as walk
-use Rattle.session.proofs.collect.collect as callee
-use Rattle.session.proofs.collect.collect.Symbol as callee-def
-use Rattle.session.proofs.collect.collect.Symbol.{name as #callee}
-use Rattle.session.proofs.collect.collect.Met as callee-thm
+use Rattle.collector.proofs.collect as callee
+use Rattle.collector.proofs.collect.Symbol as callee-def
+use Rattle.collector.proofs.collect.Symbol.{name as #callee}
+use Rattle.collector.proofs.collect.Met as callee-thm
 use Rattle.host.proofs.whole.collect.Key.{name as #self}
 use Rattle.host.proofs.whole.collect as self
 use Rattle.host.proofs.whole.collect.Statement as stated
@@ -24,4 +24,4 @@ collect-spec 𝓤 H 𝓜 𝓖 𝓡 =
     entered 𝓤 H (tripleOf 𝓤 H (𝓖 .A) self.signature (self.spec 𝓤 H (𝓖 .A) (𝓜 .mem) (𝓡 .run)))
     (tables 𝓤 H 𝓜 𝓡 code.env .C) (tables 𝓤 H 𝓜 𝓡 code.env .Λ) #self code.function (code.unfolded 𝓤 H 𝓜 𝓡)
     (walk.thin-meets answered (λ heap roots q a heap′ roots′ q′. says a (lent heap′ roots′ q′) ≡ Calls.collect Layouts.tuple (lent heap roots q)) #callee 𝓤 H (𝓖 .A) (givenOf 𝓤 H 𝓜 𝓖) (tablesOf 𝓤 H 𝓜 (tables 𝓤 H 𝓜 𝓡 code.env))
-    (cited 𝓤 H (tripleOf 𝓤 H (𝓖 .A) callee.signature (callee.spec 𝓤 H (𝓖 .A) (𝓜 .mem) (𝓡 .run))) 𝓜 𝓡 code.env #callee callee-def.routine code.calls-session·collect·collect (callee-thm.met 𝓤 H 𝓜 𝓖 𝓡)))
+    (cited 𝓤 H (tripleOf 𝓤 H (𝓖 .A) callee.signature (callee.spec 𝓤 H (𝓖 .A) (𝓜 .mem) (𝓡 .run))) 𝓜 𝓡 code.env #callee callee-def.routine code.calls-collector·collect (callee-thm.met 𝓤 H 𝓜 𝓖 𝓡)))

@@ -9,10 +9,10 @@ use Rattle.model.specs.Answers.{says}
 use Rattle.model.specs.Sessions as Sessions
 use Rattle.host.proofs.ByValueTypes.{answered, call-by-value}
 use Rattle.host.proofs.ThinBoth1 as walk
-use Rattle.session.proofs.step.step as callee
-use Rattle.session.proofs.step.step.Symbol as callee-def
-use Rattle.session.proofs.step.step.Symbol.{name as #callee}
-use Rattle.session.proofs.step.step.Met as callee-thm
+use Rattle.session.proofs.step as callee
+use Rattle.session.proofs.step.Symbol as callee-def
+use Rattle.session.proofs.step.Symbol.{name as #callee}
+use Rattle.session.proofs.step.Met as callee-thm
 use Rattle.host.proofs.whole.step.Key.{name as #self}
 use Rattle.host.proofs.whole.step as self
 use Rattle.host.proofs.whole.step.Statement as stated
@@ -24,4 +24,4 @@ step-spec 𝓤 H 𝓜 𝓖 𝓡 =
     entered 𝓤 H (tripleOf 𝓤 H (𝓖 .A) self.signature (self.spec 𝓤 H (𝓖 .A) (𝓜 .mem) (𝓡 .run)))
     (tables 𝓤 H 𝓜 𝓡 code.env .C) (tables 𝓤 H 𝓜 𝓡 code.env .Λ) #self code.function (code.unfolded 𝓤 H 𝓜 𝓡)
     (walk.thin-meets answered call-by-value (λ call heap roots q a heap′ roots′ q′. says a (lent heap′ roots′ q′) ≡ Sessions.step Layouts.tuple call (lent heap roots q)) #callee 𝓤 H (𝓖 .A) (givenOf 𝓤 H 𝓜 𝓖) (tablesOf 𝓤 H 𝓜 (tables 𝓤 H 𝓜 𝓡 code.env))
-    (cited 𝓤 H (tripleOf 𝓤 H (𝓖 .A) callee.signature (callee.spec 𝓤 H (𝓖 .A) (𝓜 .mem) (𝓡 .run))) 𝓜 𝓡 code.env #callee callee-def.routine code.calls-session·step·step (callee-thm.met 𝓤 H 𝓜 𝓖 𝓡)))
+    (cited 𝓤 H (tripleOf 𝓤 H (𝓖 .A) callee.signature (callee.spec 𝓤 H (𝓖 .A) (𝓜 .mem) (𝓡 .run))) 𝓜 𝓡 code.env #callee callee-def.routine code.calls-session·step (callee-thm.met 𝓤 H 𝓜 𝓖 𝓡)))

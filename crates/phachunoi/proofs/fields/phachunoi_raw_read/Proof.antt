@@ -1,16 +1,16 @@
 -- `phachunoi::fields::phachunoi_raw_read` meets its contract: its numbers cross to the call and back.
 use Rattle.model.specs.declared.Call.the-variants as Ask
 use Rattle.model.specs.Sessions.{step}
-use Rattle.phachunoi.specs.Numbers.{answer}
-use Rattle.phachunoi.proofs.Crosses.{crosses}
+use Rattle.crossing.specs.Numbers.{answer}
+use Rattle.crossing.proofs.Crosses.{crosses}
 use borrow.Author.Needs.{needs}
 use Rattle.phachunoi.proofs.fields.phachunoi_raw_read.Statement.{statement}
 use Rattle.phachunoi.proofs.fields.phachunoi_raw_read.Tie as tie
 use Rattle.phachunoi.proofs.fields.phachunoi_raw_read.Reads as reads
 use Rattle.phachunoi.proofs.fields.phachunoi_raw_read.Lts as lts
-use Rattle.objects.proofs.fields.raw_read.Reads as raw-read-reads
-use Rattle.phachunoi.proofs.numbers.answer.Reads as answer-reads
-use Rattle.phachunoi.proofs.numbers.record_of.Reads as record-of-reads
+use Rattle.objects.proofs.raw_read.Reads as raw-read-reads
+use Rattle.crossing.proofs.answer.Reads as answer-reads
+use Rattle.crossing.proofs.record_of.Reads as record-of-reads
 
 record-of-requires : tie.Need-record-of-requires
 record-of-requires c κs = search needs

@@ -3,16 +3,16 @@ use native.Mathlib.Omega.{arith}
 use Rattle.model.specs.declared.Call.the-variants as Ask
 use Rattle.model.specs.declared.Kind.the-variants.{Traced}
 use Rattle.model.specs.Sessions.{step}
-use Rattle.phachunoi.specs.Numbers.{result}
-use Rattle.phachunoi.proofs.Crosses.{crosses, narrow}
+use Rattle.crossing.specs.Numbers.{result}
+use Rattle.crossing.proofs.Crosses.{crosses, narrow}
 use borrow.Author.Needs.{needs}
 use Rattle.phachunoi.proofs.heap.phachunoi_allocate_traced.Statement.{statement}
 use Rattle.phachunoi.proofs.heap.phachunoi_allocate_traced.Tie as tie
 use Rattle.phachunoi.proofs.heap.phachunoi_allocate_traced.Reads as reads
 use Rattle.phachunoi.proofs.heap.phachunoi_allocate_traced.Lts as lts
-use Rattle.phachunoi.proofs.numbers.record_of.Reads as record-of-reads
-use Rattle.phachunoi.proofs.numbers.result.Reads as result-reads
-use Rattle.session.proofs.allocate.allocate.Reads as allocate-reads
+use Rattle.crossing.proofs.record_of.Reads as record-of-reads
+use Rattle.crossing.proofs.result.Reads as result-reads
+use Rattle.allocator.proofs.allocate.Reads as allocate-reads
 
 record-of-requires : tie.Need-record-of-requires
 record-of-requires c κs = search needs

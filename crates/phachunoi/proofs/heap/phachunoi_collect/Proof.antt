@@ -2,16 +2,16 @@
 use native.Mathlib.Omega.{arith}
 use Rattle.model.specs.declared.Call.the-variants as Ask
 use Rattle.model.specs.Sessions.{step}
-use Rattle.phachunoi.specs.Numbers.{collected}
-use Rattle.phachunoi.proofs.Crosses.{crosses, narrow}
+use Rattle.crossing.specs.Numbers.{collected}
+use Rattle.crossing.proofs.Crosses.{crosses, narrow}
 use borrow.Author.Needs.{needs}
 use Rattle.phachunoi.proofs.heap.phachunoi_collect.Statement.{statement}
 use Rattle.phachunoi.proofs.heap.phachunoi_collect.Tie as tie
 use Rattle.phachunoi.proofs.heap.phachunoi_collect.Reads as reads
 use Rattle.phachunoi.proofs.heap.phachunoi_collect.Lts as lts
-use Rattle.phachunoi.proofs.numbers.collected.Reads as collected-reads
-use Rattle.phachunoi.proofs.numbers.record_of.Reads as record-of-reads
-use Rattle.session.proofs.collect.collect.Reads as collect-reads
+use Rattle.crossing.proofs.collected.Reads as collected-reads
+use Rattle.crossing.proofs.record_of.Reads as record-of-reads
+use Rattle.collector.proofs.collect.Reads as collect-reads
 
 record-of-requires : tie.Need-record-of-requires
 record-of-requires c κs = search needs

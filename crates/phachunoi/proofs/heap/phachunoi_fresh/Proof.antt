@@ -1,14 +1,14 @@
 -- `phachunoi::heap::phachunoi_fresh` meets its contract: fresh is called with no roots.
 use native.Mathlib.Omega.{arith}
-use Rattle.phachunoi.proofs.Crosses.{fresh-crosses, fresh-narrow}
+use Rattle.crossing.proofs.Crosses.{fresh-crosses, fresh-narrow}
 use borrow.Author.Needs.{needs}
 use Rattle.phachunoi.proofs.heap.phachunoi_fresh.Statement.{statement}
 use Rattle.phachunoi.proofs.heap.phachunoi_fresh.Tie as tie
 use Rattle.phachunoi.proofs.heap.phachunoi_fresh.Reads as reads
 use Rattle.phachunoi.proofs.heap.phachunoi_fresh.Lts as lts
 use Rattle.access.proofs.fresh.fresh.Reads as fresh-reads
-use Rattle.phachunoi.proofs.numbers.fresh_result.Reads as fresh-result-reads
-use Rattle.phachunoi.proofs.numbers.record_of.Reads as record-of-reads
+use Rattle.crossing.proofs.fresh_result.Reads as fresh-result-reads
+use Rattle.crossing.proofs.record_of.Reads as record-of-reads
 
 slice-aggregate-fresh : tie.Need-slice-aggregate-fresh
 slice-aggregate-fresh c = search needs

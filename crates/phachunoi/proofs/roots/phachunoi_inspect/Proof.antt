@@ -1,16 +1,16 @@
 -- `phachunoi::roots::phachunoi_inspect` meets its contract: its numbers cross to the call and back.
 use Rattle.model.specs.declared.Call.the-variants as Ask
 use Rattle.model.specs.Sessions.{step}
-use Rattle.phachunoi.specs.Numbers.{seen}
-use Rattle.phachunoi.proofs.Crosses.{crosses}
+use Rattle.crossing.specs.Numbers.{seen}
+use Rattle.crossing.proofs.Crosses.{crosses}
 use borrow.Author.Needs.{needs}
 use Rattle.phachunoi.proofs.roots.phachunoi_inspect.Statement.{statement}
 use Rattle.phachunoi.proofs.roots.phachunoi_inspect.Tie as tie
 use Rattle.phachunoi.proofs.roots.phachunoi_inspect.Reads as reads
 use Rattle.phachunoi.proofs.roots.phachunoi_inspect.Lts as lts
-use Rattle.objects.proofs.inspect.inspect.Reads as inspect-reads
-use Rattle.phachunoi.proofs.numbers.record_of.Reads as record-of-reads
-use Rattle.phachunoi.proofs.numbers.seen.Reads as seen-reads
+use Rattle.views.proofs.inspect.inspect.Reads as inspect-reads
+use Rattle.crossing.proofs.record_of.Reads as record-of-reads
+use Rattle.crossing.proofs.seen.Reads as seen-reads
 
 record-of-requires : tie.Need-record-of-requires
 record-of-requires c κs = search needs

@@ -2,16 +2,16 @@
 use native.Mathlib.Omega.{arith}
 use Rattle.model.specs.declared.Call.the-variants as Ask
 use Rattle.model.specs.Sessions.{step}
-use Rattle.phachunoi.specs.Numbers.{result}
-use Rattle.phachunoi.proofs.Crosses.{crosses, narrow}
+use Rattle.crossing.specs.Numbers.{result}
+use Rattle.crossing.proofs.Crosses.{crosses, narrow}
 use borrow.Author.Needs.{needs}
 use Rattle.phachunoi.proofs.roots.phachunoi_set_null.Statement.{statement}
 use Rattle.phachunoi.proofs.roots.phachunoi_set_null.Tie as tie
 use Rattle.phachunoi.proofs.roots.phachunoi_set_null.Reads as reads
 use Rattle.phachunoi.proofs.roots.phachunoi_set_null.Lts as lts
 use Rattle.access.proofs.roots.set_null.Reads as set-null-reads
-use Rattle.phachunoi.proofs.numbers.record_of.Reads as record-of-reads
-use Rattle.phachunoi.proofs.numbers.result.Reads as result-reads
+use Rattle.crossing.proofs.record_of.Reads as record-of-reads
+use Rattle.crossing.proofs.result.Reads as result-reads
 
 record-of-requires : tie.Need-record-of-requires
 record-of-requires c κs = search needs

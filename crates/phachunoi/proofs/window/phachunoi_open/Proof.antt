@@ -1,13 +1,13 @@
 -- `phachunoi::window::phachunoi_open` meets its contract: its numbers cross to `find`, and the place back.
-use Rattle.phachunoi.proofs.Crosses.{window-crosses, place-narrow}
+use Rattle.crossing.proofs.Crosses.{window-crosses, place-narrow}
 use borrow.Author.Needs.{needs}
 use Rattle.phachunoi.proofs.window.phachunoi_open.Statement.{statement}
 use Rattle.phachunoi.proofs.window.phachunoi_open.Tie as tie
 use Rattle.phachunoi.proofs.window.phachunoi_open.Reads as reads
 use Rattle.phachunoi.proofs.window.phachunoi_open.Lts as lts
-use Rattle.objects.proofs.window.find.Reads as find-reads
-use Rattle.phachunoi.proofs.numbers.record_of.Reads as record-of-reads
-use Rattle.phachunoi.proofs.numbers.window_of.Reads as window-of-reads
+use Rattle.views.proofs.window.find.Reads as find-reads
+use Rattle.crossing.proofs.record_of.Reads as record-of-reads
+use Rattle.crossing.proofs.window_of.Reads as window-of-reads
 
 record-of-requires : tie.Need-record-of-requires
 record-of-requires c κs = search needs

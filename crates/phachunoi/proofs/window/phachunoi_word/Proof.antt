@@ -3,13 +3,13 @@ use Prim.Native.Nat.{_+_}
 use native.Mathlib.Omega.{arith}
 use lib.ListN.{length}
 use borrow.Author.Tests.{le-leb, lt-leb}
-use Rattle.phachunoi.specs.Numbers.{wordAt}
+use Rattle.crossing.specs.Numbers.{wordAt}
 use borrow.Author.Needs.{needs}
 use Rattle.phachunoi.proofs.window.phachunoi_word.Statement.{statement}
 use Rattle.phachunoi.proofs.window.phachunoi_word.Tie as tie
 use Rattle.phachunoi.proofs.window.phachunoi_word.Reads as reads
 use Rattle.phachunoi.proofs.window.phachunoi_word.Lts as lts
-use Rattle.phachunoi.proofs.numbers.answer.Reads as answer-reads
+use Rattle.crossing.proofs.answer.Reads as answer-reads
 
 cast-count : tie.Need-cast-count
 cast-count c = search needs

@@ -1,0 +1,91 @@
+-- Allocate by what its tests come to: refused, placed at once, or tried again after a collection. Assumes nothing.
+use Prim.Native.Nat.{ℕ, _+_, _≤_, _<_}
+use native.Mathlib.Numerals.{add-one}
+use native.Mathlib.Omega.{arith}
+use mathlib.Core.Path.{_≡_, ap, _∙_}
+use mathlib.Core.Bool.{true, false}
+use mathlib.Core.List.{List}
+use lib.ListN.{length, set}
+use borrow.Author.Tests.{lt-ltb, le-ltb, le-leb, lt-leb}
+use Rattle.model.specs.declared.Kind.{Kind}
+use Rattle.model.specs.declared.Refusal.the-variants as Why
+use Rattle.model.specs.declared.Answer.the-variants as Says
+use Rattle.model.specs.Limits.{maxFields}
+use Rattle.model.specs.Words.{State, lent, free}
+use Rattle.model.specs.Headers.{Layout}
+use Rattle.model.specs.Shape.{badShape}
+use Rattle.model.specs.Objects.{address}
+use Rattle.model.specs.Soundness.{sound}
+use Rattle.model.specs.Collection.{collected}
+use Rattle.model.specs.Answers.{says, refuse}
+use Rattle.model.specs.Changes.{spare, placed}
+use Rattle.model.specs.Calls as Calls
+use Rattle.model.proofs.Shape.{Shaped, first-in}
+use Rattle.runs.specs.Runs.{cleared}
+use Rattle.runs.proofs.RunLaws.{cleared-sets}
+use Rattle.allocator.specs.Placing.{MayPlace, MaySpare, spareOf, retried}
+
+-- ---- a new object
+
+module _ (Y : Layout) (s : State) (k : Kind) (n r : ℕ) where
+  placed-is : placed Y k n r s
+      ≡ lent (cleared (set (s .heap) (free s) (Y .header k n)) (free s + 1) n) (set (s .roots) r (address Y (free s))) (record { half = s .«record» .half; free = record { 0 = free s + (n + 1) } })
+  unfolding placed
+  placed-is = rw (cleared-sets, add-one (free s))
+
+  -- from what each call answers
+  pub placed-by : (header a : ℕ) (h₁ : List ℕ) → header ≡ Y .header k n → h₁ ≡ cleared (set (s .heap) (free s) header) (free s + 1) n → a ≡ address Y (free s)
+      → lent h₁ (set (s .roots) r a) (record { half = s .«record» .half; free = record { 0 = free s + (n + 1) } }) ≡ placed Y k n r s
+  placed-by header a h₁ e f g = rw (placed-is, f, e, g)
+
+-- what its callers have: a shape that is not refused, and room
+pub may-spare : (s : State) → Shaped s → MaySpare (length (s .heap)) (s .«record»)
+may-spare s h = record { some = omega (arith, h .odd); few = omega (arith, h .odd, h .small); high = h .high }
+
+pub may-place : (s : State) (n r : ℕ) → Shaped s → r < length (s .roots) → n ≤ maxFields → n < spareOf (length (s .heap)) (s .«record») → MayPlace s n r
+may-place s n r h l c f =
+    let b = first-in s h in
+    record { room = omega (arith, b .1); words = omega (arith, h .odd, h .small); root = l; count = c }
+
+-- ---- the cases
+
+module _ (Y : Layout) (k : Kind) (n r : ℕ) (s : State) where
+  pub allocate-shape : badShape s ≡ true → Calls.allocate Y k n r s ≡ says (Says.Refused Why.Shape) s
+  unfolding Calls.allocate refuse
+  allocate-shape b = rw b
+
+  module _ (b : badShape s ≡ false) where
+    pub allocate-root : length (s .roots) ≤ r → Calls.allocate Y k n r s ≡ says (Says.Refused Why.Root) s
+    unfolding Calls.allocate refuse
+    allocate-root l = rw (b, le-leb (length (s .roots)) r l)
+
+    module _ (l : r < length (s .roots)) where
+      pub allocate-count : maxFields < n → Calls.allocate Y k n r s ≡ says (Says.Refused Why.Count) s
+      unfolding Calls.allocate refuse
+      allocate-count c = rw (b, lt-leb (length (s .roots)) r l, lt-ltb maxFields n c)
+
+      module _ (c : n ≤ maxFields) where
+        pub allocate-now : n < spare s → Calls.allocate Y k n r s ≡ says Says.Done (placed Y k n r s)
+        unfolding Calls.allocate refuse
+        allocate-now f = rw (b, lt-leb (length (s .roots)) r l, le-ltb maxFields n c, le-leb (n + 1) (spare s) (omega arith))
+
+        pub allocate-retry : spare s ≤ n → Calls.allocate Y k n r s ≡ retried Y k n r s
+        unfolding Calls.allocate refuse retried
+        allocate-retry f = rw (b, lt-leb (length (s .roots)) r l, le-ltb maxFields n c, lt-leb (n + 1) (spare s) (omega arith))
+
+  pub retried-damaged : sound Y s ≡ false → retried Y k n r s ≡ says (Says.Refused Why.Damaged) s
+  unfolding retried refuse
+  retried-damaged e = rw e
+
+  -- after a collection that left s′, with m words spare
+  module _ (e : sound Y s ≡ true) (s′ : State) (l : s′ ≡ collected Y s) (m : ℕ) (p : m ≡ spareOf (length (s′ .heap)) (s′ .«record»)) where
+    spare-is : m ≡ spare (collected Y s)
+    spare-is = p ∙ ap (λ (x : State). spare x) l
+
+    pub retried-room : m ≤ n → says (Says.Refused Why.Room) s′ ≡ retried Y k n r s
+    unfolding retried refuse
+    retried-room f = rw (e, l, lt-leb (n + 1) (spare (collected Y s)) (omega (arith, spare-is)))
+
+    pub retried-done : n < m → (s″ : State) → s″ ≡ placed Y k n r s′ → says Says.Done s″ ≡ retried Y k n r s
+    unfolding retried refuse
+    retried-done f s″ u = rw (e, u, l, le-leb (n + 1) (spare (collected Y s)) (omega (arith, spare-is)))

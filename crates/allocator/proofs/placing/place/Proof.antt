@@ -1,0 +1,77 @@
+-- `session::placing::place` meets its contract: its three stores are those of `placed`.
+use mathlib.Core.Path.{ap, _∙_}
+use native.Mathlib.Omega.{arith}
+use lib.ListN.{length, length-set}
+use Rattle.model.specs.Headers.{tuple}
+use Rattle.model.specs.Words.{lent}
+use Rattle.runs.proofs.RunLaws.{cleared-length}
+use Rattle.allocator.proofs.AllocateCases.{placed-by}
+use borrow.Author.Needs.{needs}
+use Rattle.allocator.proofs.placing.place.Statement.{statement}
+use Rattle.allocator.proofs.placing.place.Tie as tie
+use Rattle.allocator.proofs.placing.place.Reads as reads
+use Rattle.allocator.proofs.placing.place.Lts as lts
+use Rattle.runs.proofs.clear.Reads as clear-reads
+use Rattle.words.proofs.tuple.Tuple.address_of.Reads as address-of-reads
+use Rattle.words.proofs.tuple.Tuple.header.Reads as header-reads
+
+header-requires : tie.Need-header-requires
+header-requires c κs = search needs
+
+mul-heap : tie.Need-mul-heap
+mul-heap c = search needs
+
+slice-write-heap : tie.Need-slice-write-heap
+slice-write-heap c = search needs
+
+add-clear : tie.Need-add-clear
+add-clear c = search needs
+
+clear-requires : tie.Need-clear-requires
+clear-requires c κs = simp length-set (omega (arith, c .before .before .before .before .before .pre .room))
+
+address-of-requires : tie.Need-address-of-requires
+address-of-requires c κs = search needs
+
+mul-roots : tie.Need-mul-roots
+mul-roots c = search needs
+
+slice-write-roots : tie.Need-slice-write-roots
+slice-write-roots c = search needs
+
+add-t11 : tie.Need-add-t11
+add-t11 c = search needs
+
+add-t18 : tie.Need-add-t18
+add-t18 c = search needs
+
+same-length : tie.Need-same-length
+same-length c =
+    let s = c .before .before .before .before .before .before .before .before .before in
+    ap length (c .before .before .before .clear .ensures) ∙ cleared-length _ _ _ ∙ length-set (s .args .heap .now) (s .args .«record» .free .0) (c .before .before .before .before .before .header .result)
+
+same-length-2 : tie.Need-same-length-2
+same-length-2 c = search needs
+
+returns : tie.Need-returns
+returns c =
+    let s = c .before .before .before .before .before .before .before .before .before in
+    placed-by tuple (lent (s .args .heap .now) (s .args .roots .now) (s .args .«record»)) _ _ _ _ _ _ (c .before .before .before .before .before .header .ensures) (c .before .before .before .clear .ensures) (c .address-of .ensures)
+
+pub place-spec : {M : Type 1} → statement M
+place-spec =
+    tie.close
+    (tie.spec
+    header-requires
+    mul-heap
+    slice-write-heap
+    add-clear
+    clear-requires
+    address-of-requires
+    mul-roots
+    slice-write-roots
+    add-t11
+    add-t18
+    same-length
+    same-length-2
+    returns)

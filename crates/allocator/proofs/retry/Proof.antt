@@ -1,0 +1,94 @@
+-- `session::allocate::retry` meets its contract: one case of the definition for each return, over what the collection left.
+use mathlib.Core.Path.{_≡_, _∙_, sym}
+use mathlib.Core.Bool.{true}
+use native.Mathlib.Omega.{arith}
+use Rattle.model.specs.Headers.{tuple}
+use Rattle.model.specs.Words.{lent}
+use Rattle.model.specs.Soundness.{sound}
+use Rattle.model.specs.Collection.{collected}
+use Rattle.allocator.proofs.Left.{left-is, left-shaped, left-roots}
+use Rattle.allocator.proofs.AllocateCases.{may-spare, may-place, retried-damaged, retried-room, retried-done}
+use borrow.Author.Needs.{needs}
+use Rattle.allocator.proofs.retry.Statement.{statement}
+use Rattle.allocator.proofs.retry.Tie as tie
+use Rattle.allocator.proofs.retry.Reads as reads
+use Rattle.allocator.proofs.retry.Lts as lts
+use Rattle.checker.proofs.is_sound.Reads as is-sound-reads
+use Rattle.engine.proofs.collect_sound.Reads as collect-sound-reads
+use Rattle.allocator.proofs.placing.place.Reads as place-reads
+use Rattle.allocator.proofs.placing.spare_of.Reads as spare-of-reads
+
+-- once the collection is done: the heap was found sound, and this is what is left
+checked : (c : tie.After-after) → sound tuple (lent (c .before .before .before .before .before .before .before .before .before .before .before .before .before .before .before .before .args .heap .now) (c .before .before .before .before .before .before .before .before .before .before .before .before .before .before .before .before .args .roots .now) (c .before .before .before .before .before .before .before .before .before .before .before .before .before .before .before .before .args .«record»)) ≡ true
+checked c = sym (c .before .before .before .before .before .before .before .before .before .before .before .is-sound .ensures .0) ∙ c .before .before .before .before .before .before .before .before .if1 .taken
+
+left : (c : tie.After-after) → lent (c .before .before .before .before .before .collect-sound .last .0) (c .before .before .before .before .before .collect-sound .last .1 .0) (c .before .before .before .before .before .collect-sound .result .«record»)
+    ≡ collected tuple (lent (c .before .before .before .before .before .before .before .before .before .before .before .before .before .before .before .before .args .heap .now) (c .before .before .before .before .before .before .before .before .before .before .before .before .before .before .before .before .args .roots .now) (c .before .before .before .before .before .before .before .before .before .before .before .before .before .before .before .before .args .«record»))
+left c = left-is tuple _ _ _ _ (c .before .before .before .before .before .before .before .before .before .before .before .is-sound .ensures .1) _ _ (c .before .before .before .before .before .collect-sound .ensures)
+
+is-sound-requires : tie.Need-is-sound-requires
+is-sound-requires c κs = search needs
+
+collect-sound-requires : tie.Need-collect-sound-requires
+collect-sound-requires c κs =
+    let q = c .before .before .before .before .before .is-sound .ensures in
+    rw (q .1) (sym (q .0) ∙ c .before .before .if1 .taken)
+
+spare-of-requires : tie.Need-spare-of-requires
+spare-of-requires c κs = may-spare _ (left-shaped tuple _ (checked c) _ (left c))
+
+place-requires : tie.Need-place-requires
+place-requires c κs =
+    let a = c .before .before .before .before in
+    may-place _ _ _ (left-shaped tuple _ (checked a) _ (left a)) (omega (arith, left-roots tuple _ (checked a) _ (left a), a .before .before .before .before .before .before .before .before .before .before .before .before .before .before .before .before .pre .1)) (a .before .before .before .before .before .before .before .before .before .before .before .before .before .before .before .before .pre .0) (omega (arith, c .before .before .before .spare-of .ensures, c .before .before .if2 .taken))
+
+same-length : tie.Need-same-length
+same-length c = search needs
+
+same-length-2 : tie.Need-same-length-2
+same-length-2 c = search needs
+
+returns : tie.Need-returns
+returns c =
+    let a = c .before .before .before .before .before .before .before .before .before in
+    retried-done tuple _ _ _ _ (checked a) _ (left a) _ (c .before .before .before .before .before .before .before .before .spare-of .ensures) (c .before .before .before .before .before .before .before .if2 .taken) _ (c .before .before .before .before .place .ensures)
+
+same-length-3 : tie.Need-same-length-3
+same-length-3 c = search needs
+
+same-length-4 : tie.Need-same-length-4
+same-length-4 c = search needs
+
+returns-2 : tie.Need-returns-2
+returns-2 c =
+    let a = c .before .before in
+    retried-room tuple _ _ _ _ (checked a) _ (left a) _ (c .before .spare-of .ensures) (c .if2 .left)
+
+same-length-5 : tie.Need-same-length-5
+same-length-5 c = search needs
+
+same-length-6 : tie.Need-same-length-6
+same-length-6 c = search needs
+
+returns-3 : tie.Need-returns-3
+returns-3 c =
+    let q = c .before .before .before .is-sound .ensures in
+    rw (q .1) (sym (retried-damaged tuple _ _ _ _ (sym (q .0) ∙ c .if1 .left)))
+
+pub retry-spec : {M : Type 1} → statement M
+retry-spec =
+    tie.close
+    (tie.spec
+    is-sound-requires
+    collect-sound-requires
+    spare-of-requires
+    place-requires
+    same-length
+    same-length-2
+    returns
+    same-length-3
+    same-length-4
+    returns-2
+    same-length-5
+    same-length-6
+    returns-3)

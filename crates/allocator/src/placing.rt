@@ -1,0 +1,46 @@
+// A new object at the free index, and whether one fits.
+ghost use mathlib.Core.Path.{_≡_};
+ghost use Rattle.model.specs.Words.{lent};
+ghost use Rattle.model.specs.Headers as Layouts;
+ghost use Rattle.model.specs.Changes.{placed};
+ghost use Rattle.allocator.specs.Placing.{MayPlace, MaySpare, spareOf};
+use model::Index;
+use model::Kind;
+use model::Record;
+use words::tuple::Tuple;
+
+// The free words of the current half.
+pub(crate) fn spare_of(words: usize, record: Record) -> usize
+    requires { ⌜ MaySpare words «record» ⌝ }
+    ensures { λ r. ⌜ r ≡ spareOf words «record» ⌝ }
+{
+    let half = record.half;
+    let free = record.free.0;
+    let size = (words - 1) / 2;
+    let first = words::shape::first_of(size, half).0;
+    first + size - free
+}
+
+// Writes the header and the zeros at the free index, and the object's address into root `to`. Answers the new record.
+pub(crate) fn place(
+    heap: &mut [u32],
+    roots: &mut [u32],
+    record: Record,
+    kind: Kind,
+    fields: usize,
+    to: usize,
+) -> Record
+    requires { ⌜ MayPlace (lent (now heap) (now roots) «record») fields to ⌝ }
+    ensures { λ r. ⌜ lent (now (heap .exit)) (now (roots .exit)) r ≡ placed Layouts.tuple kind fields to (lent (now (heap .entry)) (now (roots .entry)) «record») ⌝ }
+{
+    let half = record.half;
+    let free = record.free;
+    let at = free.0;
+    heap[at] = Tuple::header(kind, fields);
+    runs::clear(heap, at + 1, fields);
+    roots[to] = Tuple::address_of(free).0;
+    Record {
+        half,
+        free: Index(at + (fields + 1)),
+    }
+}

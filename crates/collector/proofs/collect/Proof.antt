@@ -1,0 +1,70 @@
+-- `session::collect::collect` meets its contract: one case of the definition for each return.
+use mathlib.Core.Path.{_≡_, _∙_, sym}
+use mathlib.Core.Bool.{false}
+use Rattle.model.specs.Headers.{tuple}
+use Rattle.model.specs.Words.{lent}
+use Rattle.model.specs.Shape.{badShape}
+use Rattle.collector.proofs.CollectCases.{collect-shape, collect-damaged, collect-live}
+use borrow.Author.Needs.{needs}
+use Rattle.collector.proofs.collect.Statement.{statement}
+use Rattle.collector.proofs.collect.Tie as tie
+use Rattle.collector.proofs.collect.Reads as reads
+use Rattle.collector.proofs.collect.Lts as lts
+use Rattle.checker.proofs.is_sound.Reads as is-sound-reads
+use Rattle.engine.proofs.collect_sound.Reads as collect-sound-reads
+use Rattle.words.proofs.shape.bad_shape.Reads as bad-shape-reads
+
+-- past the first test the shape is good
+fair : (c : tie.Else1) → badShape (lent (c .before .before .before .before .args .heap .now) (c .before .before .before .before .args .roots .now) (c .before .before .before .before .args .«record»)) ≡ false
+fair c = sym (c .before .bad-shape .ensures) ∙ c .if1 .left
+
+bad-shape-requires : tie.Need-bad-shape-requires
+bad-shape-requires c κs = search needs
+
+returns : tie.Need-returns
+returns c = sym (collect-shape tuple _ (sym (c .before .bad-shape .ensures) ∙ c .if1 .taken))
+
+is-sound-requires : tie.Need-is-sound-requires
+is-sound-requires c κs = search needs
+
+collect-sound-requires : tie.Need-collect-sound-requires
+collect-sound-requires c κs =
+    let q = c .before .before .before .before .before .is-sound .ensures in
+    rw (q .1) (sym (q .0) ∙ c .before .before .if2 .taken)
+
+same-length : tie.Need-same-length
+same-length c = search needs
+
+same-length-2 : tie.Need-same-length-2
+same-length-2 c = search needs
+
+returns-2 : tie.Need-returns-2
+returns-2 c =
+    let q = c .before .before .before .before .before .before .before .before .before .before .before .is-sound .ensures in
+    rw (collect-live tuple _ (fair (c .before .before .before .before .before .before .before .before .before .before .before .before .before .before)) (sym (q .0) ∙ c .before .before .before .before .before .before .before .before .if2 .taken), ← (q .1)) (c .before .before .before .before .before .collect-sound .ensures)
+
+same-length-3 : tie.Need-same-length-3
+same-length-3 c = search needs
+
+same-length-4 : tie.Need-same-length-4
+same-length-4 c = search needs
+
+returns-3 : tie.Need-returns-3
+returns-3 c =
+    let q = c .before .before .before .is-sound .ensures in
+    rw (q .1) (sym (collect-damaged tuple _ (fair (c .before .before .before .before .before .before)) (sym (q .0) ∙ c .if2 .left)))
+
+pub collect-spec : {M : Type 1} → statement M
+collect-spec =
+    tie.close
+    (tie.spec
+    bad-shape-requires
+    returns
+    is-sound-requires
+    collect-sound-requires
+    same-length
+    same-length-2
+    returns-2
+    same-length-3
+    same-length-4
+    returns-3)

@@ -1,0 +1,67 @@
+-- The laws of specs/Laws. Assumes nothing.
+use Prim.Native.Nat.{ℕ, _+_, _≤_, _<_}
+use native.Mathlib.Omega.{arith}
+use mathlib.Core.Path.{_≡_, refl, sym, ap, _∙_}
+use mathlib.Core.Logic.{⊎-elim}
+use mathlib.Core.Bool.{true, false}
+use lib.Dec.{leb}
+use lib.ListN.{length, drop, length-take, length-drop}
+use borrow.Author.Tests.{leb-true, leb-false, le-leb, lt-leb, ltb-false, eq-eqb, ne-eqb}
+use Rattle.model.specs.declared.Half.{Half}
+use Rattle.model.specs.declared.Half.the-variants.{A, B}
+use Rattle.model.specs.declared.Index.{Index}
+use Rattle.model.specs.declared.Place.{Place}
+use Rattle.model.specs.declared.Place.the-variants as Place
+use Rattle.model.specs.Words.{State}
+use Rattle.model.specs.Headers.{Layout}
+use Rattle.model.specs.Window.{window, windowWord}
+use Rattle.model.proofs.Tests.{by-test, same?}
+use Rattle.model.proofs.Laws.{window-law}
+use Rattle.crossing.specs.declared.CRecord.{CRecord}
+use Rattle.crossing.specs.Numbers.{Given, given, noHalf, numbersOf, recordOf, windowNumbers, wordAt}
+use Rattle.crossing.specs.Laws as Law
+
+pub settles : Law.Settles
+settles T g a b H H′ R R′ e f =
+    let x : given a H R ≡ given b H′ R′ = e ∙ sym f in
+    (ap (λ (z : Given T). z .returned) x, ap (λ (z : Given T). z .heap) x, ap (λ (z : Given T). z .roots) x)
+
+record-half : (h : Half) (i : Index) → noHalf (numbersOf (record { half = h; free = i })) ≡ false
+record-half A i = refl
+record-half B i = refl
+
+record-there : (h : Half) (i : Index) → recordOf (numbersOf (record { half = h; free = i })) ≡ record { half = h; free = i }
+record-there A i = refl
+record-there B i = refl
+
+record-back : (c : CRecord) → noHalf c ≡ false → numbersOf (recordOf c) ≡ c
+record-back c e =
+    let l : c .half ≤ 1 = ltb-false 1 (c .half) e in
+    ⊎-elim
+    (λ (z : c .half ≡ 0). rw (eq-eqb (c .half) 0 z) (ap (λ h. record { half = h; free = c .free }) (sym z)))
+    (λ (z : c .half ≡ 0 → ⊥).
+    let o : 1 ≡ c .half = omega arith in
+    rw (ne-eqb (c .half) 0 z) (ap (λ h. record { half = h; free = c .free }) o))
+    (same? (c .half) 0)
+
+pub record-law : Law.RecordLaw
+record-law = record { half = λ q. record-half (q .half) (q .free); there = λ q. record-there (q .half) (q .free); back = record-back }
+
+module _ (Y : Layout) (r f : ℕ) (s : State) where
+  word-same : (p : Place) → window Y r s ≡ p → wordAt (s .heap) (windowNumbers p) f ≡ windowWord (s .heap) p f
+  unfolding wordAt
+  word-same (Place.Refused k) e = rw (le-leb 0 f (omega arith)) (sym (window-law Y .hides s k .word f))
+  word-same (Place.Object i n) e =
+      let w = window-law Y .shows r s i n e in
+      ⊎-elim
+      (λ (b : leb n f ≡ true). rw b (sym (w .past f (leb-true n f b))))
+      (λ (b : leb n f ≡ false).
+      let l : f < n = leb-false n f b in
+      let x = length-take n (drop (i .0 + 1) (s .heap)) in
+      let y = length-drop (i .0 + 1) (s .heap) in
+      let m : i .0 + 1 + f < length (s .heap) = omega (arith, w .words) in
+      rw (b, lt-leb (length (s .heap)) (i .0 + 1 + f) m) (sym (w .word f l)))
+      (by-test (leb n f))
+
+pub word-law : (Y : Layout) → Law.WordLaw Y
+word-law Y r f s = word-same Y r f s (window Y r s) refl

@@ -1,0 +1,20 @@
+-- `phachunoi::numbers::seen` meets its contract: each number goes to its place.
+use mathlib.Core.Path.{ap, _∙_}
+use mir.Syntax.{w32}
+use mir.ValLaws.{toZ-ofZ}
+use Rattle.crossing.specs.Numbers.{seen}
+use borrow.Author.Needs.{needs}
+use Rattle.crossing.proofs.seen.Statement.{statement}
+use Rattle.crossing.proofs.seen.Tie as tie
+use Rattle.crossing.proofs.seen.Reads as reads
+use Rattle.crossing.proofs.seen.Lts as lts
+use Rattle.numbers.proofs.told.Reads as told-reads
+
+told-requires : tie.Need-told-requires
+told-requires c κs = search needs
+
+returns : tie.Need-returns
+returns c = ap (λ v. record { refusal = c .before .told .result .refusal; kind = c .before .told .result .holds; integer = v; count = c .before .told .result .value }) (toZ-ofZ w32 (c .before .told .result .integer) (record { sfits = c .struct-told .given .1 .1 .0 .1 })) ∙ ap seen (c .before .told .ensures)
+
+pub seen-spec : {M : Type 1} → statement M
+seen-spec = tie.close (tie.spec told-requires returns)

@@ -1,0 +1,102 @@
+-- What C is told: which numbers stand for a half, a record and a window, and what a call makes of the numbers that it is given.
+-- The numbers of answers and refusals are the model's, `told` and `number`; here is only where each of them goes.
+use Prim.Native.Nat.{ℕ, _+_}
+use mathlib.Core.Bool.{Bool, cond, _||_}
+use mathlib.Core.List.{List, []}
+use lib.Dec.{ltb, leb, eqb}
+use lib.ListN.{length}
+use Rattle.model.specs.declared.Half.{Half}
+use Rattle.model.specs.declared.Half.the-variants.{A, B}
+use Rattle.model.specs.declared.Record.{Record}
+use Rattle.model.specs.declared.Refusal.the-variants as Why
+use Rattle.model.specs.declared.Answer.{Answer}
+use Rattle.model.specs.declared.Answer.the-variants as Says
+use Rattle.model.specs.declared.Place.{Place}
+use Rattle.model.specs.declared.Place.the-variants as Place
+use Rattle.model.specs.declared.Told.{Told}
+use Rattle.model.specs.Words.{State, lent, at}
+use Rattle.model.specs.Shape.{badLength}
+use Rattle.model.specs.Answers.{Outcome, number, told}
+use Rattle.model.specs.Calls.{fresh}
+use Rattle.crossing.specs.declared.CRecord.{CRecord}
+use Rattle.crossing.specs.declared.CResult.{CResult}
+use Rattle.crossing.specs.declared.CCollected.{CCollected}
+use Rattle.crossing.specs.declared.CAnswer.{CAnswer}
+use Rattle.crossing.specs.declared.CSeen.{CSeen}
+use Rattle.crossing.specs.declared.CWindow.{CWindow}
+
+-- 0.1.0, as major * 1,000,000 + minor * 1,000 + patch
+abbrev pub version : ℕ
+version = 1_000
+
+-- ---- records: half A is 0, half B is 1, and no other number is a half
+
+abbrev pub halfNumber : Half → ℕ
+halfNumber A = 0
+halfNumber B = 1
+
+abbrev pub numbersOf : Record → CRecord
+numbersOf q = record { half = halfNumber (q .half); free = q .free .0 }
+
+abbrev pub noHalf : CRecord → Bool
+noHalf c = ltb 1 (c .half)
+
+-- the record that the numbers stand for, where the half is one
+abbrev pub recordOf : CRecord → Record
+recordOf c = record { half = cond (eqb (c .half) 0) A B; free = record { 0 = c .free } }
+
+-- ---- what each call returns, of an answer and a record in numbers. A number that an answer does not have is 0.
+
+abbrev pub result : Told → CRecord → CResult
+result t c = record { refusal = t .refusal; value = t .value; «record» = c }
+
+abbrev pub collected : Told → CRecord → CCollected
+collected t c = record { refusal = t .refusal; live = t .value; «record» = c }
+
+-- no record, where the call changes nothing
+abbrev pub answer : Told → CAnswer
+answer t = record { refusal = t .refusal; value = t .value }
+
+abbrev pub seen : Told → CSeen
+seen t = record { refusal = t .refusal; kind = t .holds; integer = t .integer; count = t .value }
+
+-- ---- the calls
+
+-- what a call returns to C, and the words that it leaves
+pub record Given (T : Type 0) : Type 0 where
+  pub returned : T
+  pub heap : List ℕ
+  pub roots : List ℕ
+
+abbrev pub given : {T : Type 0} → T → List ℕ → List ℕ → Given T
+given r H R = record { returned = r; heap = H; roots = R }
+
+module _ {T : Type 0} (returns : Told → CRecord → T) where
+  -- an outcome in numbers
+  abbrev pub inNumbers : Outcome → Given T
+  inNumbers o = given (returns (told (o .answer)) (numbersOf (o .left .«record»))) (o .left .heap) (o .left .roots)
+
+  -- SHAPE: nothing changes, and the record is handed back as it came
+  abbrev pub shapeRefused : List ℕ → List ℕ → CRecord → Given T
+  shapeRefused H R c = given (returns (told (Says.Refused Why.Shape)) c) H R
+
+  -- a call of the model, given numbers: a half that is none is SHAPE
+  unfoldable pub called : (State → Outcome) → List ℕ → List ℕ → CRecord → Given T
+  called f H R c = cond (noHalf c) (shapeRefused H R c) (inNumbers (f (lent H R (recordOf c))))
+
+-- fresh looks at no number of the record: its SHAPE is that of the heap's length alone, and it has no roots
+unfoldable pub begun : List ℕ → CRecord → Given CResult
+begun H c = cond (badLength (length H)) (shapeRefused result H [] c) (inNumbers result (fresh (lent H [] (recordOf c))))
+
+-- ---- the window: the index of the first field's word, and how many there are
+
+abbrev pub windowNumbers : Place → CWindow
+windowNumbers (Place.Object i n) = record { refusal = 0; first = i .0 + 1; count = n }
+windowNumbers (Place.Refused k) = record { refusal = number k; first = 0; count = 0 }
+
+unfoldable pub opened : (State → Place) → List ℕ → List ℕ → CRecord → CWindow
+opened f H R c = windowNumbers (cond (noHalf c) (Place.Refused Why.Shape) (f (lent H R (recordOf c))))
+
+-- the word at a field number, by the window's numbers alone: FIELD where they name no word of this heap
+unfoldable pub wordAt : List ℕ → CWindow → ℕ → Answer
+wordAt H w f = cond (leb (w .count) f || leb (length H) (w .first + f)) (Says.Refused Why.Field) (Says.Number (at H (w .first + f)))

@@ -1,0 +1,190 @@
+// What C gives and gets, and the steps between that and the library's types. No enum crosses to C, so that each half,
+// kind and refusal is a number there.
+ghost use mathlib.Core.Path.{_≡_};
+ghost use Rattle.model.specs.Answers.{told};
+ghost use Rattle.crossing.specs.Numbers as Numbers;
+ghost use Rattle.crossing.specs.Crossing.{taken, back, freshBack, Narrow, NarrowPlace};
+use model::Answer;
+use model::Answered;
+use model::Half;
+use model::Index;
+use model::Place;
+use model::Record;
+use numbers::number;
+
+#[repr(C)]
+pub struct CRecord {
+    pub half: u32,
+    pub free: u32,
+}
+
+// Of a call that answers no more than done, or one number.
+#[repr(C)]
+pub struct CResult {
+    pub refusal: u32,
+    pub value: u32,
+    pub record: CRecord,
+}
+
+#[repr(C)]
+pub struct CCollected {
+    pub refusal: u32,
+    pub live: u32,
+    pub record: CRecord,
+}
+
+// Of a call that changes nothing, so that the host keeps its record.
+#[repr(C)]
+pub struct CAnswer {
+    pub refusal: u32,
+    pub value: u32,
+}
+
+#[repr(C)]
+pub struct CSeen {
+    pub refusal: u32,
+    pub kind: u32,
+    pub integer: i32,
+    pub count: u32,
+}
+
+// The words of the fields are `count` words of the heap, from the index `first` on.
+#[repr(C)]
+pub struct CWindow {
+    pub refusal: u32,
+    pub first: u32,
+    pub count: u32,
+}
+
+// The record to call with. A free index of 0 is SHAPE in every heap, which a half that is none has to be.
+pub fn record_of(record: CRecord) -> Record
+    ensures { λ r. ⌜ r ≡ taken «record» ⌝ }
+{
+    let free = Index(record.free as usize);
+    if record.half == 0 {
+        return Record {
+            half: Half::A,
+            free,
+        };
+    }
+    if record.half == 1 {
+        return Record {
+            half: Half::B,
+            free,
+        };
+    }
+    Record {
+        half: Half::A,
+        free: Index(0),
+    }
+}
+
+pub fn numbers_of(record: Record) -> CRecord
+    requires { ⌜ Narrow («record» .free .0) ⌝ }
+    ensures { λ r. ⌜ r ≡ Numbers.numbersOf «record» ⌝ }
+{
+    let half = record.half;
+    let free = record.free.0 as u32;
+    match half {
+        Half::A => CRecord { half: 0, free },
+        Half::B => CRecord { half: 1, free },
+    }
+}
+
+// The record to hand back: a half that is none comes back as it came.
+fn record_after(came: CRecord, record: Record) -> CRecord
+    requires { ⌜ Narrow («record» .free .0) ⌝ }
+    ensures { λ r. ⌜ r ≡ back came «record» ⌝ }
+{
+    if 1 < came.half {
+        return came;
+    }
+    numbers_of(record)
+}
+
+pub fn result(came: CRecord, done: Answered) -> CResult
+    requires { ⌜ Narrow (done .«record» .free .0) ⌝ }
+    ensures { λ r. ⌜ r ≡ Numbers.result (told (done .answer)) (back came (done .«record»)) ⌝ }
+{
+    let said = done.answer;
+    let told = numbers::told(said);
+    let record = record_after(came, done.record);
+    CResult {
+        refusal: told.refusal,
+        value: told.value,
+        record,
+    }
+}
+
+// What fresh returns: the record as it came where it refuses, whatever its half, and else the new one.
+pub fn fresh_result(came: CRecord, done: Answered) -> CResult
+    requires { ⌜ Narrow (done .«record» .free .0) ⌝ }
+    ensures { λ r. ⌜ r ≡ Numbers.result (told (done .answer)) (freshBack (told (done .answer)) came (done .«record»)) ⌝ }
+{
+    let said = done.answer;
+    let told = numbers::told(said);
+    let record = if told.refusal == 0 {
+        numbers_of(done.record)
+    } else {
+        came
+    };
+    CResult {
+        refusal: told.refusal,
+        value: told.value,
+        record,
+    }
+}
+
+pub fn collected(came: CRecord, done: Answered) -> CCollected
+    requires { ⌜ Narrow (done .«record» .free .0) ⌝ }
+    ensures { λ r. ⌜ r ≡ Numbers.collected (told (done .answer)) (back came (done .«record»)) ⌝ }
+{
+    let said = done.answer;
+    let told = numbers::told(said);
+    let record = record_after(came, done.record);
+    CCollected {
+        refusal: told.refusal,
+        live: told.value,
+        record,
+    }
+}
+
+pub fn answer(answer: Answer) -> CAnswer
+    ensures { λ r. ⌜ r ≡ Numbers.answer (told answer) ⌝ }
+{
+    let told = numbers::told(answer);
+    CAnswer {
+        refusal: told.refusal,
+        value: told.value,
+    }
+}
+
+pub fn seen(answer: Answer) -> CSeen
+    ensures { λ r. ⌜ r ≡ Numbers.seen (told answer) ⌝ }
+{
+    let told = numbers::told(answer);
+    CSeen {
+        refusal: told.refusal,
+        kind: told.holds,
+        integer: told.integer,
+        count: told.value,
+    }
+}
+
+pub fn window_of(place: Place) -> CWindow
+    requires { ⌜ NarrowPlace place ⌝ }
+    ensures { λ r. ⌜ r ≡ Numbers.windowNumbers place ⌝ }
+{
+    match place {
+        Place::Object(index, count) => CWindow {
+            refusal: 0,
+            first: (index.0 + 1) as u32,
+            count,
+        },
+        Place::Refused(refusal) => CWindow {
+            refusal: number(refusal),
+            first: 0,
+            count: 0,
+        },
+    }
+}

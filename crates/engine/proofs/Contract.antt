@@ -1,0 +1,57 @@
+-- What the parts of `collect_sound` ask and leave, from what its calls answer; for any lawful layout. Assumes nothing.
+use Prim.Native.Nat.{ℕ, _+_, _-_, _≤_}
+use native.Mathlib.Omega.{arith}
+use mathlib.Core.Path.{_≡_, sym, ap, _∙_}
+use mathlib.Core.Bool.{true}
+use mathlib.Core.List.{List}
+use Rattle.model.specs.declared.Half.{Half}
+use Rattle.model.specs.declared.Answer.the-variants as Says
+use Rattle.model.specs.Limits.{maxHalf}
+use Rattle.model.specs.Words.{State, lent, halfWords, other, firstOf, firstWord, otherFirst, free}
+use Rattle.model.specs.Headers.{Layout, Lawful}
+use Rattle.model.specs.Soundness.{sound}
+use Rattle.model.specs.Collection.{live, collected}
+use Rattle.model.specs.Answers.{says}
+use Rattle.model.proofs.Shape.{Shaped}
+use Rattle.model.proofs.Soundness.{Sound, sound-parts}
+use Rattle.model.proofs.Order.{order-fits}
+use Rattle.model.proofs.Collected.{live-is}
+use Rattle.engine.specs.Evacuation.{Emptied, emptied, evacuated, SafeEvacuation}
+use Rattle.engine.proofs.End.{safe, leaves, ended-is, free-is}
+
+module _ (Y : Layout) (K : Lawful Y) (s : State) (e : sound Y s ≡ true) where
+  v : Sound Y s
+  v = sound-parts Y s e
+
+  pub shape : Shaped s
+  shape = v .shape
+
+  module _ (old new : ℕ) (half : Half) (i : half ≡ other (s .«record» .half)) (o : old ≡ firstOf (halfWords (s .heap)) (s .«record» .half)) (n : new ≡ firstOf (halfWords (s .heap)) half) where
+    new-is : new ≡ otherFirst s
+    new-is = n ∙ ap (firstOf (halfWords (s .heap))) i
+
+    pub may-evacuate : SafeEvacuation Y (s .heap) (s .roots) old (free s - old) new
+    may-evacuate = rw (o, new-is) (safe Y K s v)
+
+    module _ (h′ rs′ : List ℕ) (end : ℕ) (q : emptied h′ rs′ end ≡ evacuated Y (s .heap) (s .roots) old (free s - old) new) where
+      there : emptied h′ rs′ end ≡ leaves Y K s v
+      there =
+          q ∙ ap (λ (x : ℕ). evacuated Y (s .heap) (s .roots) x (free s - x) new) o
+          ∙ ap (evacuated Y (s .heap) (s .roots) (firstWord s) (free s - firstWord s)) new-is
+
+      end-is : end ≡ new + live Y s
+      end-is = ap (λ (u : Emptied). u .free) there ∙ free-is Y K s v ∙ ap (λ (x : ℕ). x + live Y s) (sym new-is)
+
+      pub end-low : new ≤ end
+      end-low = omega (arith, end-is)
+
+      pub end-high : end - new ≤ maxHalf
+      end-high = omega (arith, end-is, live-is Y s v, order-fits Y s v, v .shape .small)
+
+      pub collect-is : says (Says.Live (end - new)) (lent h′ rs′ (record { half = half; free = record { 0 = end } })) ≡ says (Says.Live (live Y s)) (collected Y s)
+      collect-is =
+          ap (λ (x : ℕ). says (Says.Live x) (lent h′ rs′ (record { half = half; free = record { 0 = end } }))) (omega (arith, end-is))
+          ∙ ap (λ (x : State). says (Says.Live (live Y s)) x)
+          (ap (λ (x : Half). lent h′ rs′ (record { half = x; free = record { 0 = end } })) i
+          ∙ ap (λ (u : Emptied). lent (u .heap) (u .roots) (record { half = other (s .«record» .half); free = record { 0 = u .free } })) there
+          ∙ ended-is Y K s v)

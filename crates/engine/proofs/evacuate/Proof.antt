@@ -1,0 +1,39 @@
+-- `collector::evacuate` meets its contract: its three calls are the three parts of `evacuated`.
+use Rattle.engine.proofs.RootLaws.{scan-safe, evacuated-is}
+use borrow.Author.Needs.{needs}
+use Rattle.engine.proofs.evacuate.Statement.{statement}
+use Rattle.engine.proofs.evacuate.Tie as tie
+use Rattle.engine.proofs.evacuate.Reads as reads
+use Rattle.engine.proofs.evacuate.Lts as lts
+use Rattle.engine.proofs.scanning.pass_objects.Reads as pass-objects-reads
+use Rattle.engine.proofs.visit_roots.Reads as visit-roots-reads
+use Rattle.runs.proofs.clear.Reads as clear-reads
+
+visit-roots-requires : tie.Need-visit-roots-requires
+visit-roots-requires c κs = search needs
+
+pass-objects-requires : tie.Need-pass-objects-requires
+pass-objects-requires c κs = scan-safe _ _ _ _ _ _ _ _ _ (c .before .before .before .before .before .visit-roots .ensures) (c .before .before .before .before .before .before .before .before .before .before .pre)
+
+clear-requires : tie.Need-clear-requires
+clear-requires c κs = search needs
+
+same-length : tie.Need-same-length
+same-length c = search needs
+
+same-length-2 : tie.Need-same-length-2
+same-length-2 c = search needs
+
+returns : tie.Need-returns
+returns c = evacuated-is _ _ _ _ _ _ _ _ _ (c .before .before .before .before .before .before .before .before .before .before .before .before .visit-roots .ensures) _ _ _ (c .before .before .before .before .before .before .pass-objects .ensures) (c .before .before .clear .ensures)
+
+pub evacuate-spec : {M : Type 1} → statement M
+evacuate-spec =
+    tie.close
+    (tie.spec
+    visit-roots-requires
+    pass-objects-requires
+    clear-requires
+    same-length
+    same-length-2
+    returns)

@@ -1,0 +1,41 @@
+-- `collector::moving::rename` meets its contract: an address is relocated, any other word stays.
+use mathlib.Core.Path.{sym, _∙_}
+use Rattle.engine.proofs.MovingLaws.{renamed-address, renamed-plain}
+use borrow.Author.Needs.{needs}
+use Rattle.engine.proofs.moving.rename.Statement.{statement}
+use Rattle.engine.proofs.moving.rename.Tie as tie
+use Rattle.engine.proofs.moving.rename.Reads as reads
+use Rattle.engine.proofs.moving.rename.Lts as lts
+use Rattle.engine.proofs.moving.relocate.Reads as relocate-reads
+use Rattle.words.proofs.tuple.Tuple.index_of.Reads as index-of-reads
+use Rattle.words.proofs.tuple.is_address.Reads as is-address-reads
+
+is-address-requires : tie.Need-is-address-requires
+is-address-requires c κs = search needs
+
+index-of-requires : tie.Need-index-of-requires
+index-of-requires c κs = search needs
+
+relocate-requires : tie.Need-relocate-requires
+relocate-requires c κs = rw (c .index-of .ensures) (c .before .before .before .before .before .pre (sym (c .before .before .before .is-address .ensures) ∙ c .before .before .if1 .taken))
+
+same-length : tie.Need-same-length
+same-length c = search needs
+
+returns : tie.Need-returns
+returns c =
+    rw (renamed-address _ _ _ _ (sym (c .before .before .before .before .before .before .before .is-address .ensures) ∙ c .before .before .before .before .before .before .if1 .taken), ← (c .before .before .before .before .index-of .ensures)) (c .before .before .before .relocate .ensures)
+
+returns-2 : tie.Need-returns-2
+returns-2 c = sym (renamed-plain _ _ _ _ (sym (c .before .is-address .ensures) ∙ c .if1 .left))
+
+pub rename-spec : {M : Type 1} → statement M
+rename-spec =
+    tie.close
+    (tie.spec
+    is-address-requires
+    index-of-requires
+    relocate-requires
+    same-length
+    returns
+    returns-2)

@@ -1,0 +1,87 @@
+-- `collector::visit_roots` meets its contract. The invariant: the roots renamed so far, with what the others give, are what all gave.
+use Prim.Native.Nat.{_-_, _≤_}
+use native.Mathlib.Omega.{arith}
+use mathlib.Core.Path.{_≡_, refl, sym, _∙_}
+use lib.ListN.{length, take, drop, length-set}
+use Rattle.model.specs.Headers.{tuple}
+use Rattle.engine.specs.Evacuation.{rooted, SafeRoots}
+use Rattle.engine.proofs.RootLaws.{joined, roots-done, root-may, root-length, root-safe, root-turn}
+use Rattle.engine.proofs.visit_roots.Statement.{statement}
+use Rattle.engine.proofs.visit_roots.Tie as tie
+use Rattle.engine.proofs.visit_roots.Reads as reads
+use Rattle.engine.proofs.visit_roots.Lts as lts
+use Rattle.engine.proofs.moving.rename.Reads as rename-reads
+
+abbrev Inv-loop : tie.InvT-loop
+Inv-loop heap₀ roots₀ free₀ i₀ heap roots free i =
+    (i ≤ length roots) × (joined (take i roots) (rooted tuple heap (drop i roots) (free .0)) ≡ rooted tuple heap₀ roots₀ (free₀ .0))
+    × SafeRoots tuple heap (drop i roots) (free .0) × (length heap ≡ length heap₀) × (length roots ≡ length roots₀)
+
+abbrev μ-loop : tie.MeasureT-loop
+μ-loop heap₀ roots₀ free₀ i₀ heap roots free i = length roots - i
+
+loop-holds : tie.Need-loop-holds Inv-loop μ-loop
+loop-holds c = (omega arith, refl, c .before .before .pre, refl, refl)
+
+mul-word : tie.Need-mul-word Inv-loop μ-loop
+mul-word c = omega arith
+
+slice-read-word : tie.Need-slice-read-word Inv-loop μ-loop
+slice-read-word c = omega arith
+
+rename-requires : tie.Need-rename-requires Inv-loop μ-loop
+rename-requires c κs = root-may _ _ _ _ _ (c .before .before .loop-test .taken) (c .before .before .before .loop .inv .2)
+
+mul-roots : tie.Need-mul-roots Inv-loop μ-loop
+mul-roots c = omega arith
+
+slice-write-roots : tie.Need-slice-write-roots Inv-loop μ-loop
+slice-write-roots c = omega arith
+
+add-i : tie.Need-add-i Inv-loop μ-loop
+add-i c = omega arith
+
+loop-less : tie.Need-loop-less Inv-loop μ-loop
+loop-less c = simp length-set (omega arith)
+
+loop-again : tie.Need-loop-again Inv-loop μ-loop
+loop-again c =
+    let l = c .before .before .before .before .before .before .before .loop in
+    let m = c .before .before .before .before .before .before .loop-test .taken in
+    let e = c .before .before .before .rename .ensures in (
+      simp length-set (omega arith),
+      root-turn _ _ _ _ _ m (l .inv .2) _ e ∙ l .inv .1,
+      root-safe _ _ _ _ _ m (l .inv .2) _ e,
+      root-length _ _ _ _ _ m (l .inv .2) _ e ∙ l .inv .3,
+      simp length-set (l .inv .4),
+    )
+
+same-length : tie.Need-same-length Inv-loop μ-loop
+same-length c = c .before .loop .inv .3
+
+same-length-2 : tie.Need-same-length-2 Inv-loop μ-loop
+same-length-2 c = c .before .loop .inv .4
+
+returns : tie.Need-returns Inv-loop μ-loop
+returns c =
+    let l = c .before .loop in
+    sym (roots-done _ (l .heap) (l .roots) (l .free .0) (l .i) (omega arith)) ∙ l .inv .1
+
+pub visit-roots-spec : {M : Type 1} → statement M
+visit-roots-spec =
+    tie.close
+    (tie.spec
+    Inv-loop
+    μ-loop
+    loop-holds
+    mul-word
+    slice-read-word
+    rename-requires
+    mul-roots
+    slice-write-roots
+    add-i
+    loop-less
+    loop-again
+    same-length
+    same-length-2
+    returns)

@@ -1,0 +1,47 @@
+-- The roots renamed, and all of a collection, as functions of the heap and the roots. For any layout.
+use Prim.Native.Nat.{ℕ, _+_, _-_, _≤_}
+use mathlib.Core.List.{List, [], _∷_}
+use lib.ListN.{length}
+use Rattle.model.specs.Headers.{Layout}
+use Rattle.runs.specs.Runs.{cleared}
+use Rattle.engine.specs.Moving.{renamed, MayRename}
+use Rattle.engine.specs.Scanning.{After, between, run, SafeRun}
+
+-- what is left: the heap, the roots, and the next free word
+pub record Emptied : Type 0 where
+  pub heap : List ℕ
+  pub roots : List ℕ
+  pub free : ℕ
+
+abbrev pub emptied : List ℕ → List ℕ → ℕ → Emptied
+emptied h rs f = record { heap = h; roots = rs; free = f }
+
+-- a root more in front
+abbrev pub rootFirst : ℕ → Emptied → Emptied
+rootFirst w e = emptied (e .heap) (w ∷ e .roots) (e .free)
+
+module _ (Y : Layout) where
+  -- the roots renamed, by rising number
+  unfoldable pub rooted : List ℕ → List ℕ → ℕ → Emptied
+  rooted h [] f = emptied h [] f
+  rooted h (w ∷ rs) f = rootFirst (renamed Y h w f .word) (rooted (renamed Y h w f .heap) rs (renamed Y h w f .free))
+
+  unfoldable pub SafeRoots : List ℕ → List ℕ → ℕ → Type 0
+  SafeRoots h [] f = Unit {0}
+  SafeRoots h (w ∷ rs) f = MayRename Y h w f × SafeRoots (renamed Y h w f .heap) rs (renamed Y h w f .free)
+
+  -- the roots renamed, then at most p words of the copies passed
+  unfoldable pub scanned : ℕ → ℕ → Emptied → After
+  scanned p new e = run Y p (e .heap) (between new (e .free))
+
+  -- all of it: roots, scan, the used words of the old half cleared. No scan is longer than the heap.
+  unfoldable pub evacuated : List ℕ → List ℕ → ℕ → ℕ → ℕ → Emptied
+  evacuated h rs old used new =
+      let e = rooted h rs new in
+      let a = scanned (length (e .heap) - new) new e in
+      emptied (cleared (a .heap) old used) (e .roots) (a .scan .free)
+
+  pub record SafeEvacuation (h rs : List ℕ) (old used new : ℕ) : Type 0 where
+    pub roots : SafeRoots h rs new
+    pub scan : SafeRun Y (length (rooted h rs new .heap) - new) (rooted h rs new .heap) (between new (rooted h rs new .free))
+    pub within : old + used ≤ length h

@@ -1,0 +1,56 @@
+-- An object that a word names lies in the heap: what SHAPE and the test of the name say of its words. Assumes nothing.
+use Prim.Native.Nat.{ℕ, _+_, _≤_, _<_, _%_}
+use native.Mathlib.Omega.{arith}
+use mathlib.Core.Path.{_≡_, sym}
+use mathlib.Core.Bool.{Bool, true, false, not, cond, _&&_}
+use mathlib.Core.List.{List}
+use lib.Dec.{ltb, leb, eqb}
+use lib.ListN.{length}
+use borrow.Author.Tests.{leb-true}
+use Rattle.model.specs.declared.Kind.{Kind}
+use Rattle.model.specs.declared.Record.{Record}
+use Rattle.model.specs.declared.Refusal.the-variants as Why
+use Rattle.model.specs.Words.{State, at, lent, firstWord, free}
+use Rattle.model.specs.Values.{isAddress}
+use Rattle.model.specs.Headers.{Layout}
+use Rattle.model.specs.Objects.{index, size, kind, fieldCount, fieldIndex, names}
+use Rattle.model.specs.Shape.{badShape}
+use Rattle.model.proofs.Tests.{and-both}
+use Rattle.model.proofs.Shape.{shaped, first-in}
+use Rattle.model.specs.Calls.{isOfKind}
+use Rattle.naming.specs.declared.Field.the-variants.{At, Refused}
+use Rattle.naming.specs.Named.{FreeInHeap, fieldOf}
+
+pub free-in-heap : (s : State) → badShape s ≡ false → FreeInHeap (s .heap) (s .«record»)
+free-in-heap s h =
+    let g = shaped s h in
+    let f = first-in s g in
+    record { least = omega arith; within = omega arith; most = omega arith }
+
+module _ (Y : Layout) where
+  -- the name by its six tests, whatever each comes to, at the index and the half's first word as the code has them
+  pub names-tests : {a b c d h l : Bool} (s : State) (w i first : ℕ) → i ≡ index Y w → first ≡ firstWord s
+      → isAddress w ≡ a → eqb (w % 4) 0 ≡ b → leb first i ≡ c → ltb i (free s) ≡ d → Y .isHeader (at (s .heap) i) ≡ h
+      → leb (i + size Y (s .heap) i) (free s) ≡ l → (a && b && c && d && h && l) ≡ names Y s w
+  unfolding names
+  names-tests s w i first e f pa pb pc pd ph pl = simp (sym e, sym f, pa, pb, pc, pd, ph, pl)
+
+  pub named-ends : (s : State) (w : ℕ) → names Y s w ≡ true → index Y w + size Y (s .heap) (index Y w) ≤ free s
+  unfolding names
+  named-ends s w h =
+      leb-true _ _
+      (and-both (isAddress w && eqb (w % 4) 0 && leb (firstWord s) (index Y w) && ltb (index Y w) (free s) && Y .isHeader (at (s .heap) (index Y w))) _ h .1)
+
+  pub header-in : (H R : List ℕ) (q : Record) (w : ℕ) → FreeInHeap H q → names Y (lent H R q) w ≡ true → index Y w < length H
+  header-in H R q w g h = omega (arith, named-ends (lent H R q) w h)
+
+  -- the same where SHAPE was tested, of the index as the code has it
+  pub header-below : (s : State) (w i : ℕ) → i ≡ index Y w → badShape s ≡ false → names Y s w ≡ true → i < length (s .heap)
+  header-below s w i e h n = rw e (header-in (s .heap) (s .roots) (s .«record») w (free-in-heap s h) n)
+
+  -- the field by its three tests, whatever each comes to, at the header's index as the code has it
+  pub field-tests : {a b c : Bool} (k : Kind) (w f i : ℕ) (s : State) → i ≡ index Y w
+      → not (names Y s w) ≡ a → not (isOfKind k (kind Y (s .heap) i)) ≡ b → leb (fieldCount Y (s .heap) i) f ≡ c
+      → cond a (Refused Why.Object) (cond b (Refused Why.Kind) (cond c (Refused Why.Field) (At (record { 0 = fieldIndex i f })))) ≡ fieldOf Y k w f s
+  unfolding fieldOf
+  field-tests k w f i s e pa pb pc = simp (sym e, pa, pb, pc)

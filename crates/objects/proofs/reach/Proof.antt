@@ -1,0 +1,63 @@
+-- `objects::fields::reach` meets its contract: SHAPE and ROOT test by test, the rest by `field_of`.
+use Prim.Native.Nat.{_<_}
+use mathlib.Core.Path.{sym, _∙_}
+use lib.ListN.{length}
+use Rattle.model.specs.Words.{State, lent}
+use Rattle.objects.specs.Reached.{reached}
+use Rattle.access.proofs.RootNumbers.{both-below}
+use Rattle.naming.proofs.NamedObjects.{free-in-heap}
+use borrow.Author.Needs.{needs}
+use Rattle.objects.proofs.reach.Statement.{statement}
+use Rattle.objects.proofs.reach.Tie as tie
+use Rattle.objects.proofs.reach.Reads as reads
+use Rattle.objects.proofs.reach.Lts as lts
+use Rattle.naming.proofs.field_of.Reads as field-of-reads
+use Rattle.access.proofs.root_numbers.no_root.Reads as no-root-reads
+use Rattle.words.proofs.shape.bad_shape.Reads as bad-shape-reads
+
+-- what the call was lent
+abbrev start : tie.Start → State
+start c = lent (c .args .heap .now) (c .args .roots .now) (c .args .«record»)
+
+below : (c : tie.Else2) → c .before .before .before .before .before .before .args .object < length (c .before .before .before .before .before .before .args .roots .now)
+below c = both-below _ _ _ (sym (c .before .no-root .ensures) ∙ c .if2 .left) .0
+
+bad-shape-requires : tie.Need-bad-shape-requires
+bad-shape-requires c κs = search needs
+
+returns : tie.Need-returns
+unfolding reached
+returns c = simp (sym (c .before .bad-shape .ensures) ∙ c .if1 .taken)
+
+no-root-requires : tie.Need-no-root-requires
+no-root-requires c κs = search needs
+
+returns-2 : tie.Need-returns-2
+unfolding reached
+returns-2 c = simp (sym (c .before .before .before .bad-shape .ensures) ∙ c .before .before .if1 .left, sym (c .before .no-root .ensures) ∙ c .if2 .taken)
+
+mul-field-of : tie.Need-mul-field-of
+mul-field-of c = let b = below c in search needs
+
+shared-slice-read-field-of : tie.Need-shared-slice-read-field-of
+shared-slice-read-field-of c = below (c .before)
+
+field-of-requires : tie.Need-field-of-requires
+field-of-requires c κs = free-in-heap (start (c .before .before .before .before .before .before .before)) (sym (c .before .before .before .before .bad-shape .ensures) ∙ c .before .before .before .if1 .left)
+
+returns-3 : tie.Need-returns-3
+unfolding reached
+returns-3 c = simp (sym (c .before .before .before .before .before .bad-shape .ensures) ∙ c .before .before .before .before .if1 .left, sym (c .before .before .before .no-root .ensures) ∙ c .before .before .if2 .left) (c .field-of .ensures (c .before .before .before .before .before .before .before .before .args .roots .now))
+
+pub reach-spec : {M : Type 1} → statement M
+reach-spec =
+    tie.close
+    (tie.spec
+    bad-shape-requires
+    returns
+    no-root-requires
+    returns-2
+    mul-field-of
+    shared-slice-read-field-of
+    field-of-requires
+    returns-3)

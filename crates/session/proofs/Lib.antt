@@ -1,2 +1,0 @@
-pub mod CollectCases
-pub mod AllocateCases

@@ -1,0 +1,280 @@
+-- `session::step::step` meets its contract: each arm is the case of `step` for its call.
+use mir.Syntax.{w64}
+use mir.ValLaws.{toZ-ofZ}
+use Rattle.model.specs.Sessions.{step}
+use borrow.Author.Needs.{needs}
+use Rattle.session.proofs.step.Statement.{statement}
+use Rattle.session.proofs.step.Tie as tie
+use Rattle.session.proofs.step.Reads as reads
+use Rattle.session.proofs.step.Lts as lts
+use Rattle.objects.proofs.load.Reads as load-reads
+use Rattle.objects.proofs.raw_read.Reads as raw-read-reads
+use Rattle.objects.proofs.raw_write.Reads as raw-write-reads
+use Rattle.objects.proofs.store.Reads as store-reads
+use Rattle.views.proofs.inspect.inspect.Reads as inspect-reads
+use Rattle.access.proofs.roots.copy.Reads as copy-reads
+use Rattle.access.proofs.roots.same.Reads as same-reads
+use Rattle.access.proofs.set_integer.set_integer.Reads as set-integer-reads
+use Rattle.access.proofs.roots.set_null.Reads as set-null-reads
+use Rattle.checker.proofs.check.Reads as check-reads
+use Rattle.allocator.proofs.allocate.Reads as allocate-reads
+use Rattle.collector.proofs.collect.Reads as collect-reads
+
+enum-told : tie.Need-enum-told
+enum-told c = search needs
+
+collect-requires : tie.Need-collect-requires
+collect-requires c κs = search needs
+
+enum-told-2 : tie.Need-enum-told-2
+enum-told-2 c = search needs
+
+check-requires : tie.Need-check-requires
+check-requires c κs = search needs
+
+enum-known-call : tie.Need-enum-known-call
+enum-known-call c = search needs
+
+allocate-requires : tie.Need-allocate-requires
+allocate-requires c κs = search needs
+
+enum-known-call-2 : tie.Need-enum-known-call-2
+enum-known-call-2 c = search needs
+
+set-integer-requires : tie.Need-set-integer-requires
+set-integer-requires c κs = search needs
+
+enum-known-call-3 : tie.Need-enum-known-call-3
+enum-known-call-3 c = search needs
+
+set-null-requires : tie.Need-set-null-requires
+set-null-requires c κs = search needs
+
+enum-known-call-4 : tie.Need-enum-known-call-4
+enum-known-call-4 c = search needs
+
+copy-requires : tie.Need-copy-requires
+copy-requires c κs = search needs
+
+enum-known-call-5 : tie.Need-enum-known-call-5
+enum-known-call-5 c = search needs
+
+load-requires : tie.Need-load-requires
+load-requires c κs = search needs
+
+enum-known-call-6 : tie.Need-enum-known-call-6
+enum-known-call-6 c = search needs
+
+store-requires : tie.Need-store-requires
+store-requires c κs = search needs
+
+enum-known-call-7 : tie.Need-enum-known-call-7
+enum-known-call-7 c = search needs
+
+raw-read-requires : tie.Need-raw-read-requires
+raw-read-requires c κs = search needs
+
+enum-known-call-8 : tie.Need-enum-known-call-8
+enum-known-call-8 c = search needs
+
+raw-write-requires : tie.Need-raw-write-requires
+raw-write-requires c κs = search needs
+
+enum-known-call-9 : tie.Need-enum-known-call-9
+enum-known-call-9 c = search needs
+
+same-requires : tie.Need-same-requires
+same-requires c κs = search needs
+
+enum-known-call-10 : tie.Need-enum-known-call-10
+enum-known-call-10 c = search needs
+
+inspect-requires : tie.Need-inspect-requires
+inspect-requires c κs = search needs
+
+same-length : tie.Need-same-length
+same-length c = search needs
+
+same-length-2 : tie.Need-same-length-2
+same-length-2 c = search needs
+
+returns : tie.Need-returns
+unfolding step
+returns c = rw (c .before .before .before .before .before .before .before .enum-told .given .1) (c .before .before .before .before .collect .ensures)
+
+same-length-3 : tie.Need-same-length-3
+same-length-3 c = search needs
+
+same-length-4 : tie.Need-same-length-4
+same-length-4 c = search needs
+
+returns-2 : tie.Need-returns-2
+unfolding step
+returns-2 c = rw (c .before .before .before .before .before .enum-told2 .given .1) (c .before .before .check .ensures)
+
+same-length-5 : tie.Need-same-length-5
+same-length-5 c = search needs
+
+same-length-6 : tie.Need-same-length-6
+same-length-6 c = search needs
+
+returns-3 : tie.Need-returns-3
+unfolding step
+returns-3 c = rw (c .before .before .before .before .before .before .before .before .call .given .1) (c .before .before .before .before .allocate .ensures)
+
+same-length-7 : tie.Need-same-length-7
+same-length-7 c = search needs
+
+same-length-8 : tie.Need-same-length-8
+same-length-8 c = search needs
+
+returns-4 : tie.Need-returns-4
+unfolding step
+returns-4 c =
+    let v = toZ-ofZ w64 (c .before .before .before .before .before .before .call2 .given .0 .1 .0) (record { sfits = c .before .before .before .before .before .known-told2 .given .1 .0 .1 }) in
+    rw (c .before .before .before .before .before .before .call2 .given .1) (rw v at (c .before .before .set-integer .ensures))
+
+same-length-9 : tie.Need-same-length-9
+same-length-9 c = search needs
+
+same-length-10 : tie.Need-same-length-10
+same-length-10 c = search needs
+
+returns-5 : tie.Need-returns-5
+unfolding step
+returns-5 c = rw (c .before .before .before .before .before .before .call3 .given .1) (c .before .before .set-null .ensures)
+
+same-length-11 : tie.Need-same-length-11
+same-length-11 c = search needs
+
+same-length-12 : tie.Need-same-length-12
+same-length-12 c = search needs
+
+returns-6 : tie.Need-returns-6
+unfolding step
+returns-6 c = rw (c .before .before .before .before .before .before .call4 .given .1) (c .before .before .copy .ensures)
+
+same-length-13 : tie.Need-same-length-13
+same-length-13 c = search needs
+
+same-length-14 : tie.Need-same-length-14
+same-length-14 c = search needs
+
+returns-7 : tie.Need-returns-7
+unfolding step
+returns-7 c = rw (c .before .before .before .before .before .before .call5 .given .1) (c .before .before .load .ensures)
+
+same-length-15 : tie.Need-same-length-15
+same-length-15 c = search needs
+
+same-length-16 : tie.Need-same-length-16
+same-length-16 c = search needs
+
+returns-8 : tie.Need-returns-8
+unfolding step
+returns-8 c = rw (c .before .before .before .before .before .before .call6 .given .1) (c .before .before .store .ensures)
+
+same-length-17 : tie.Need-same-length-17
+same-length-17 c = search needs
+
+same-length-18 : tie.Need-same-length-18
+same-length-18 c = search needs
+
+returns-9 : tie.Need-returns-9
+unfolding step
+returns-9 c = rw (c .before .before .before .before .call7 .given .1) (c .raw-read .ensures)
+
+same-length-19 : tie.Need-same-length-19
+same-length-19 c = search needs
+
+same-length-20 : tie.Need-same-length-20
+same-length-20 c = search needs
+
+returns-10 : tie.Need-returns-10
+unfolding step
+returns-10 c = rw (c .before .before .before .before .before .before .call8 .given .1) (c .before .before .raw-write .ensures)
+
+same-length-21 : tie.Need-same-length-21
+same-length-21 c = search needs
+
+same-length-22 : tie.Need-same-length-22
+same-length-22 c = search needs
+
+returns-11 : tie.Need-returns-11
+unfolding step
+returns-11 c = rw (c .before .before .before .before .call9 .given .1) (c .same .ensures)
+
+same-length-23 : tie.Need-same-length-23
+same-length-23 c = search needs
+
+same-length-24 : tie.Need-same-length-24
+same-length-24 c = search needs
+
+returns-12 : tie.Need-returns-12
+unfolding step
+returns-12 c = rw (c .before .before .before .before .call10 .given .1) (c .inspect .ensures)
+
+pub step-spec : {M : Type 1} → statement M
+step-spec =
+    tie.close
+    (tie.spec
+    enum-told
+    collect-requires
+    enum-told-2
+    check-requires
+    enum-known-call
+    allocate-requires
+    enum-known-call-2
+    set-integer-requires
+    enum-known-call-3
+    set-null-requires
+    enum-known-call-4
+    copy-requires
+    enum-known-call-5
+    load-requires
+    enum-known-call-6
+    store-requires
+    enum-known-call-7
+    raw-read-requires
+    enum-known-call-8
+    raw-write-requires
+    enum-known-call-9
+    same-requires
+    enum-known-call-10
+    inspect-requires
+    same-length
+    same-length-2
+    returns
+    same-length-3
+    same-length-4
+    returns-2
+    same-length-5
+    same-length-6
+    returns-3
+    same-length-7
+    same-length-8
+    returns-4
+    same-length-9
+    same-length-10
+    returns-5
+    same-length-11
+    same-length-12
+    returns-6
+    same-length-13
+    same-length-14
+    returns-7
+    same-length-15
+    same-length-16
+    returns-8
+    same-length-17
+    same-length-18
+    returns-9
+    same-length-19
+    same-length-20
+    returns-10
+    same-length-21
+    same-length-22
+    returns-11
+    same-length-23
+    same-length-24
+    returns-12)

@@ -1,0 +1,90 @@
+-- `objects::window::find` meets its contract, test by test; an object that is named lies in the heap.
+use Prim.Native.Nat.{_<_}
+use borrow.Author.Tests.{le-leb, lt-leb, not-false}
+use mathlib.Core.Path.{_≡_, sym, ap, _∙_}
+use mathlib.Core.Bool.{false, not}
+use lib.ListN.{length}
+use Rattle.model.specs.Words.{State, lent}
+use Rattle.model.specs.Shape.{badShape}
+use Rattle.model.specs.Window.{window}
+use Rattle.naming.proofs.NamedObjects.{free-in-heap, header-below}
+use borrow.Author.Needs.{needs}
+use Rattle.views.proofs.window.find.Statement.{statement}
+use Rattle.views.proofs.window.find.Tie as tie
+use Rattle.views.proofs.window.find.Reads as reads
+use Rattle.views.proofs.window.find.Lts as lts
+use Rattle.naming.proofs.names.Reads as names-reads
+use Rattle.words.proofs.shape.bad_shape.Reads as bad-shape-reads
+use Rattle.words.proofs.tuple.Tuple.count_of.Reads as count-of-reads
+use Rattle.words.proofs.tuple.Tuple.index_of.Reads as index-of-reads
+
+-- what the call was lent
+abbrev start : tie.Start → State
+start c = lent (c .args .heap .now) (c .args .roots .now) (c .args .«record»)
+
+shape : (c : tie.Else1) → badShape (start (c .before .before .before .before)) ≡ false
+shape c = sym (c .before .bad-shape .ensures) ∙ c .if1 .left
+
+below : (c : tie.After-index-of) → c .index-of .result .0 < length (c .before .before .before .before .before .before .before .before .before .args .heap .now)
+below c = header-below _ (start (c .before .before .before .before .before .before .before .before .before)) _ _ (c .index-of .ensures) (shape (c .before .before .before .before .before)) (sym (c .before .before .names .ensures (c .before .before .before .before .before .before .before .before .before .args .roots .now)) ∙ not-false _ (c .before .if3 .left))
+
+bad-shape-requires : tie.Need-bad-shape-requires
+bad-shape-requires c κs = search needs
+
+returns : tie.Need-returns
+unfolding window
+returns c = simp (sym (c .before .bad-shape .ensures) ∙ c .if1 .taken)
+
+returns-2 : tie.Need-returns-2
+unfolding window
+returns-2 c = simp (shape (c .before), le-leb _ _ (c .if2 .taken))
+
+mul-word : tie.Need-mul-word
+mul-word c = search needs
+
+shared-slice-read-word : tie.Need-shared-slice-read-word
+shared-slice-read-word c = search needs
+
+names-requires : tie.Need-names-requires
+names-requires c κs = free-in-heap (start (c .before .before .before .before .before .before)) (shape (c .before .before))
+
+returns-3 : tie.Need-returns-3
+unfolding window
+returns-3 c = simp (shape (c .before .before .before .before), lt-leb _ _ (c .before .before .before .if2 .left), ap not (sym (c .before .names .ensures (c .before .before .before .before .before .before .before .before .args .roots .now))) ∙ c .if3 .taken)
+
+index-of-requires : tie.Need-index-of-requires
+index-of-requires c κs = search needs
+
+mul-header : tie.Need-mul-header
+mul-header c = let b = below c in search needs
+
+shared-slice-read-header : tie.Need-shared-slice-read-header
+shared-slice-read-header c = below (c .before)
+
+count-of-requires : tie.Need-count-of-requires
+count-of-requires c κs = search needs
+
+cast-count : tie.Need-cast-count
+cast-count c = search needs
+
+returns-4 : tie.Need-returns-4
+unfolding window
+returns-4 c = simp (shape (c .before .before .before .before .before .before .before), lt-leb _ _ (c .before .before .before .before .before .before .if2 .left), ap not (sym (c .before .before .before .before .names .ensures (c .before .before .before .before .before .before .before .before .before .before .before .args .roots .now))) ∙ c .before .before .before .if3 .left, sym (c .before .before .index-of .ensures), sym (c .count-of .ensures .0))
+
+pub find-spec : {M : Type 1} → statement M
+find-spec =
+    tie.close
+    (tie.spec
+    bad-shape-requires
+    returns
+    returns-2
+    mul-word
+    shared-slice-read-word
+    names-requires
+    returns-3
+    index-of-requires
+    mul-header
+    shared-slice-read-header
+    count-of-requires
+    cast-count
+    returns-4)

@@ -1,0 +1,73 @@
+// The window on the object that a root names: it holds on to the lent heap words, with the object's place among them. What it
+// shows is settled by the two covered functions over the words and the place; the opener and the two readers only pass on.
+ghost use mathlib.Core.Path.{_≡_};
+ghost use Rattle.model.specs.Words.{lent};
+ghost use Rattle.model.specs.Headers as Layouts;
+ghost use Rattle.model.specs.Window as Windows;
+use model::Answer;
+use model::Place;
+use model::Record;
+use model::Refusal;
+
+// The lent heap words, and where the object stands among them or why there is none.
+pub struct Window<'a> {
+    pub words: &'a [u32],
+    pub place: Place,
+}
+
+// The field count at a place: how many words a window there shows, 0 where it is refused.
+pub fn count_of(place: Place) -> u32
+    ensures { λ r. ⌜ r ≡ Windows.windowCount place ⌝ }
+{
+    match place {
+        Place::Object(_, count) => count,
+        Place::Refused(_) => 0,
+    }
+}
+
+// The word at a field number of the object at a place, or FIELD. Any words and any place will do: a field that the count
+// allows, and that lies past the end of the words, reads 0. A place that was found in these words has no such field.
+pub fn word_at(words: &[u32], place: Place, field: usize) -> Answer
+    ensures { λ r. ⌜ r ≡ Windows.windowWord (now (words .entry)) place field ⌝ }
+{
+    match place {
+        Place::Object(header, count) => {
+            let fields = count as usize;
+            let at = header.0;
+            if fields <= field {
+                return Answer::Refused(Refusal::Field);
+            }
+            if words.len() <= at {
+                return Answer::Number(0);
+            }
+            if words.len() - at - 1 <= field {
+                return Answer::Number(0);
+            }
+            Answer::Number(words[at + 1 + field])
+        }
+        Place::Refused(_) => Answer::Refused(Refusal::Field),
+    }
+}
+
+// A window on the object that a root names, of either kind; or one refused with SHAPE, ROOT or OBJECT. Of the object it looks
+// at the header, and at no field.
+pub fn open<'a>(heap: &'a [u32], roots: &[u32], record: Record, object: usize) -> Window<'a>
+    ensures { λ w. ⌜ (w .words ≡ heap .entry) × (w .place ≡ Windows.window Layouts.tuple object (lent (now (heap .entry)) (now (roots .entry)) «record»)) ⌝ }
+{
+    let place = views::window::find(heap, roots, record, object);
+    Window { words: heap, place }
+}
+
+// The field count of the object that a window is on, 0 where it is refused.
+pub fn count<'a>(window: Window<'a>) -> u32
+    ensures { λ r. ⌜ r ≡ Windows.windowCount (window .entry .place) ⌝ }
+{
+    count_of(window.place)
+}
+
+// The word at a field number of the object that a window is on, as it stands in the lent words; or FIELD.
+pub fn word<'a>(window: Window<'a>, field: usize) -> Answer
+    ensures { λ r. ⌜ r ≡ Windows.windowWord (now (window .entry .words)) (window .entry .place) field ⌝ }
+{
+    word_at(window.words, window.place, field)
+}
