@@ -8,6 +8,7 @@ ghost use Rattle.model.specs.Headers as Layouts;
 ghost use Rattle.model.specs.Answers.{outcome};
 ghost use Rattle.model.specs.Calls as Calls;
 ghost use Rattle.allocator.specs.Placing.{retried};
+
 mod placing;
 
 use model::Answer;

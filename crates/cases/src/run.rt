@@ -4,8 +4,8 @@ use model::Half;
 use model::Index;
 use model::Kind;
 use model::Record;
-use session::step;
 use numbers::told;
+use session::step;
 
 pub fn start(free: usize) -> Record {
     Record {

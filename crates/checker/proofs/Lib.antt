@@ -1,4 +1,3 @@
-pub mod Turns
 pub mod MarkLaws
 pub mod SoundByMarks
 pub mod Returns

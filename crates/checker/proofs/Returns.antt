@@ -20,8 +20,8 @@ use Rattle.model.specs.Values.{isNull}
 use Rattle.model.specs.Words.{lent, at, halfWords, other, firstOf}
 use Rattle.runs.specs.Runs.{run, cleared}
 use Rattle.runs.proofs.RunLaws.{Apart}
-use Rattle.checker.specs.declared.Part.{Part}
-use Rattle.checker.specs.Marks.{Fits, Halves, part, usedWords, partOf, Marking, marking, marked, isZeroAround, isValueByMarks, fieldsAreValuesByMarks, isTiledPart, headersOf, allAreValuesByMarks, usedPartSound}
+use Rattle.marks.specs.declared.Part.{Part}
+use Rattle.marks.specs.Marks.{Fits, Halves, part, usedWords, partOf, Marking, marking, marked, isZeroAround, isValueByMarks, fieldsAreValuesByMarks, isTiledPart, headersOf, allAreValuesByMarks, usedPartSound}
 use Rattle.checker.proofs.SoundByMarks.{lengths, stop-is, marked-tiled, halves, fits, apart, sound-dirty, sound-clean, heap-restored}
 
 -- ---- the part of a record

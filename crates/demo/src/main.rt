@@ -1,14 +1,14 @@
 // Builds P5 of document 01 by calls, collects it, and prints what is left.
 use access::fresh::fresh;
 use access::set_integer::set_integer;
+use allocator::allocate;
+use collector::collect;
 use model::Answer;
 use model::Half;
 use model::Index;
 use model::Kind;
 use model::Record;
 use objects::store;
-use allocator::allocate;
-use collector::collect;
 
 // A traced object of `fields` fields in root `to`, with the integer `value` in one of them, by way of root `by`.
 fn build_one(

@@ -1,4 +1,3 @@
-pub mod MovingLaws
 pub mod PassingLaws
 pub mod RunLaws
 pub mod ObjectLaws

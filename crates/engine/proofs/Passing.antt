@@ -20,7 +20,7 @@ use Rattle.model.proofs.Visits.{Starts, visit-starts, visit-has}
 use Rattle.model.proofs.Packed.{packed-starts, packed-grows}
 use Rattle.model.proofs.Soundness.{Sound}
 use Rattle.model.proofs.Middle.{visit-none, header-within, distinct-fits, cell-header}
-use Rattle.engine.specs.Moving.{renamed, MayRename}
+use Rattle.moving.specs.Moving.{renamed, MayRename}
 use Rattle.engine.specs.Scanning.{Scan, passed, MayPass}
 use Rattle.engine.proofs.PassingLaws.{passed-header, passed-raw, passed-value}
 use Rattle.engine.proofs.Midway.{Midway}

@@ -10,10 +10,10 @@ use borrow.Author.Tests.{eq-eqb, ne-eqb}
 use Rattle.model.specs.Words.{at}
 use Rattle.model.specs.Headers.{Layout}
 use Rattle.model.proofs.Tests.{same?}
-use Rattle.engine.specs.declared.moving.Met.the-variants.{Plain}
-use Rattle.engine.specs.Moving.{Left, left, renamed}
+use Rattle.moving.specs.declared.Met.the-variants.{Plain}
+use Rattle.moving.specs.Moving.{Left, left, renamed}
 use Rattle.engine.specs.Scanning.{Scan, After, freed, stored, onward, valuesOf, rawsOf, fieldPassed, passed}
-use Rattle.engine.proofs.MovingLaws.{renamed-length, renamed-free, renamed-nothing}
+use Rattle.moving.proofs.MovingLaws.{renamed-length, renamed-free, renamed-nothing}
 
 module _ (Y : Layout) where
   -- ---- the field at i

@@ -22,7 +22,7 @@ use Rattle.model.proofs.Soundness.{Sound}
 use Rattle.model.proofs.Values.{leads-address, value-header}
 use Rattle.model.proofs.During.{rename-stable, order-step}
 use Rattle.model.proofs.Middle.{distinct-fits}
-use Rattle.engine.specs.Moving.{renamed}
+use Rattle.moving.specs.Moving.{renamed}
 use Rattle.engine.specs.Scanning.{Scan, between, After, passed, run, MayPass, SafeRun}
 use Rattle.engine.specs.Evacuation.{Emptied, rooted, SafeRoots}
 use Rattle.engine.proofs.RunLaws.{run-done, run-step}

@@ -4,7 +4,7 @@ use mathlib.Core.List.{List, [], _∷_}
 use lib.ListN.{length}
 use Rattle.model.specs.Headers.{Layout}
 use Rattle.runs.specs.Runs.{cleared}
-use Rattle.engine.specs.Moving.{renamed, MayRename}
+use Rattle.moving.specs.Moving.{renamed, MayRename}
 use Rattle.engine.specs.Scanning.{After, between, run, SafeRun}
 
 -- what is left: the heap, the roots, and the next free word

@@ -1,4 +1,3 @@
-pub mod Moving
 pub mod Scanning
 pub mod Evacuation
 pub mod Middle

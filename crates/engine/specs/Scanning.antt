@@ -9,7 +9,7 @@ use lib.ListN.{length, set}
 use Rattle.model.specs.Words.{at}
 use Rattle.model.specs.Headers.{Layout}
 use Rattle.model.specs.Objects.{isTraced, size}
-use Rattle.engine.specs.Moving.{Left, renamed, MayRename}
+use Rattle.moving.specs.Moving.{Left, renamed, MayRename}
 
 -- where the scan stands: the next word; how many values, and then how many raw words, are left of the object that it is in;
 -- the next free word

@@ -10,7 +10,6 @@ ghost use Rattle.model.specs.Answers.{says};
 ghost use Rattle.model.specs.declared.Answer.the-variants as Says;
 ghost use Rattle.engine.specs.Evacuation.{emptied, rooted, SafeRoots, evacuated, SafeEvacuation};
 
-mod moving;
 mod scanning;
 
 use model::Index;

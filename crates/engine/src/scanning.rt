@@ -5,9 +5,8 @@ ghost use lib.ListN.{length};
 ghost use Rattle.model.specs.Headers.{tuple};
 ghost use Rattle.model.specs.Objects.{size};
 ghost use Rattle.engine.specs.Scanning.{freed, after, scan, between, ended, fieldPassed, run, MayPassField, MayPassFields, MayPassObject, SafeRun};
-use crate::moving;
-use crate::moving::Met;
 use model::Index;
+use moving::Met;
 use words::tuple::Tuple;
 
 // The next object of the scan, and the next free word.

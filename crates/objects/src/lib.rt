@@ -6,8 +6,6 @@ ghost use Rattle.model.specs.Headers as Layouts;
 ghost use Rattle.model.specs.Answers.{outcome};
 ghost use Rattle.model.specs.Calls as Calls;
 ghost use Rattle.objects.specs.Reached.{reached};
-use naming::Field;
-use naming::field_of;
 use access::answers::say;
 use access::root_numbers::no_root;
 use model::Answer;
@@ -15,6 +13,8 @@ use model::Answered;
 use model::Kind;
 use model::Record;
 use model::Refusal;
+use naming::Field;
+use naming::field_of;
 use words::shape::bad_shape;
 
 // What the four calls have in common: SHAPE, ROOT for the object's root and for the other that the call names, and then

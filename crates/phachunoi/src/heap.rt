@@ -58,14 +58,7 @@ pub extern "C" fn phachunoi_allocate_traced(
 ) -> CResult
     ensures { λ r. ⌜ given r (now (heap .exit)) (now (roots .exit)) ≡ called Numbers.result (Calls.allocate Layouts.tuple Traced fields to) (now (heap .entry)) (now (roots .entry)) «record» ⌝ }
 {
-    let done = allocator::allocate(
-        heap,
-        roots,
-        record_of(record),
-        Kind::Traced,
-        fields,
-        to,
-    );
+    let done = allocator::allocate(heap, roots, record_of(record), Kind::Traced, fields, to);
     result(record, done)
 }
 
@@ -80,13 +73,6 @@ pub extern "C" fn phachunoi_allocate_untraced(
 ) -> CResult
     ensures { λ r. ⌜ given r (now (heap .exit)) (now (roots .exit)) ≡ called Numbers.result (Calls.allocate Layouts.tuple Untraced fields to) (now (heap .entry)) (now (roots .entry)) «record» ⌝ }
 {
-    let done = allocator::allocate(
-        heap,
-        roots,
-        record_of(record),
-        Kind::Untraced,
-        fields,
-        to,
-    );
+    let done = allocator::allocate(heap, roots, record_of(record), Kind::Untraced, fields, to);
     result(record, done)
 }

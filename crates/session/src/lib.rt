@@ -26,26 +26,13 @@ pub fn step(heap: &mut [u32], roots: &mut [u32], record: Record, call: Call) -> 
         ),
         Call::SetNull { to } => access::roots::set_null(heap, roots, record, to),
         Call::Copy { from, to } => access::roots::copy(heap, roots, record, from, to),
-        Call::Load { object, field, to } => objects::load(
-            heap,
-            roots,
-            record,
-            object,
-            field,
-            to,
-        ),
+        Call::Load { object, field, to } => objects::load(heap, roots, record, object, field, to),
         Call::Store {
             object,
             field,
             from,
         } => objects::store(heap, roots, record, object, field, from),
-        Call::RawRead { object, field } => objects::raw_read(
-            heap,
-            roots,
-            record,
-            object,
-            field,
-        ),
+        Call::RawRead { object, field } => objects::raw_read(heap, roots, record, object, field),
         Call::RawWrite {
             object,
             field,

@@ -4,7 +4,6 @@ ghost use Rattle.model.specs.Words.{lent};
 ghost use Rattle.model.specs.Headers as Layouts;
 ghost use Rattle.model.specs.Answers.{outcome};
 ghost use Rattle.model.specs.Calls as Calls;
-use naming::names;
 use access::answers::say;
 use access::integers::untag;
 use model::Address;
@@ -12,6 +11,7 @@ use model::Answer;
 use model::Answered;
 use model::Record;
 use model::Refusal;
+use naming::names;
 use words::shape::bad_shape;
 use words::tuple::Tuple;
 

@@ -3,12 +3,12 @@ ghost use mathlib.Core.Path.{_≡_};
 ghost use Rattle.model.specs.Words.{lent};
 ghost use Rattle.model.specs.Headers as Layouts;
 ghost use Rattle.model.specs.Window.{window};
-use naming::names;
 use model::Address;
 use model::Index;
 use model::Place;
 use model::Record;
 use model::Refusal;
+use naming::names;
 use words::shape::bad_shape;
 use words::tuple::Tuple;
 

@@ -5,7 +5,7 @@ use Rattle.engine.proofs.scanning.pass_field.Statement.{statement}
 use Rattle.engine.proofs.scanning.pass_field.Tie as tie
 use Rattle.engine.proofs.scanning.pass_field.Reads as reads
 use Rattle.engine.proofs.scanning.pass_field.Lts as lts
-use Rattle.engine.proofs.moving.rename.Reads as rename-reads
+use Rattle.moving.proofs.rename.Reads as rename-reads
 
 mul-word : tie.Need-mul-word
 mul-word c = search needs

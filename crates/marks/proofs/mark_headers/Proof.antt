@@ -5,12 +5,12 @@ use mathlib.Core.Path.{_≡_, refl, sym, _∙_}
 use lib.ListN.{length, length-set}
 use borrow.Author.Tests.{not-true, not-false}
 use Rattle.model.specs.Headers.{tuple}
-use Rattle.checker.specs.Marks.{part, markHeaders, marked}
-use Rattle.checker.proofs.Turns.{mark-ended, mark-stopped, mark-turn}
-use Rattle.checker.proofs.mark_headers.Statement.{statement}
-use Rattle.checker.proofs.mark_headers.Tie as tie
-use Rattle.checker.proofs.mark_headers.Reads as reads
-use Rattle.checker.proofs.mark_headers.Lts as lts
+use Rattle.marks.specs.Marks.{part, markHeaders, marked}
+use Rattle.marks.proofs.Turns.{mark-ended, mark-stopped, mark-turn}
+use Rattle.marks.proofs.mark_headers.Statement.{statement}
+use Rattle.marks.proofs.mark_headers.Tie as tie
+use Rattle.marks.proofs.mark_headers.Reads as reads
+use Rattle.marks.proofs.mark_headers.Lts as lts
 use Rattle.words.proofs.tuple.Tuple.count_of.Reads as count-of-reads
 use Rattle.words.proofs.tuple.Tuple.is_header.Reads as is-header-reads
 

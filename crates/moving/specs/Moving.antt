@@ -10,8 +10,8 @@ use Rattle.model.specs.Values.{isAddress}
 use Rattle.model.specs.Headers.{Layout}
 use Rattle.model.specs.Objects.{address, index, size}
 use Rattle.runs.specs.Runs.{copiedRun}
-use Rattle.engine.specs.declared.moving.Met.{Met}
-use Rattle.engine.specs.declared.moving.Met.the-variants.{Plain, Copied, Found}
+use Rattle.moving.specs.declared.Met.{Met}
+use Rattle.moving.specs.declared.Met.the-variants.{Plain, Copied, Found}
 
 -- what renaming leaves: the heap, the new word, the next free index, and what the word led to
 pub record Left : Type 0 where

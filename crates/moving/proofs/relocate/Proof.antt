@@ -3,12 +3,12 @@ use native.Mathlib.Omega.{arith}
 use mathlib.Core.Path.{sym, _∙_}
 use lib.ListN.{length-set}
 use Rattle.model.specs.Headers.{tuple}
-use Rattle.engine.proofs.MovingLaws.{copied-is, copied-same, found-is}
+use Rattle.moving.proofs.MovingLaws.{copied-is, copied-same, found-is}
 use borrow.Author.Needs.{needs}
-use Rattle.engine.proofs.moving.relocate.Statement.{statement}
-use Rattle.engine.proofs.moving.relocate.Tie as tie
-use Rattle.engine.proofs.moving.relocate.Reads as reads
-use Rattle.engine.proofs.moving.relocate.Lts as lts
+use Rattle.moving.proofs.relocate.Statement.{statement}
+use Rattle.moving.proofs.relocate.Tie as tie
+use Rattle.moving.proofs.relocate.Reads as reads
+use Rattle.moving.proofs.relocate.Lts as lts
 use Rattle.runs.proofs.copy.Reads as copy-reads
 use Rattle.words.proofs.tuple.Tuple.address_of.Reads as address-of-reads
 use Rattle.words.proofs.tuple.Tuple.count_of.Reads as count-of-reads

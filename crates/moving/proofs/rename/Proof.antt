@@ -1,12 +1,12 @@
 -- `collector::moving::rename` meets its contract: an address is relocated, any other word stays.
 use mathlib.Core.Path.{sym, _∙_}
-use Rattle.engine.proofs.MovingLaws.{renamed-address, renamed-plain}
+use Rattle.moving.proofs.MovingLaws.{renamed-address, renamed-plain}
 use borrow.Author.Needs.{needs}
-use Rattle.engine.proofs.moving.rename.Statement.{statement}
-use Rattle.engine.proofs.moving.rename.Tie as tie
-use Rattle.engine.proofs.moving.rename.Reads as reads
-use Rattle.engine.proofs.moving.rename.Lts as lts
-use Rattle.engine.proofs.moving.relocate.Reads as relocate-reads
+use Rattle.moving.proofs.rename.Statement.{statement}
+use Rattle.moving.proofs.rename.Tie as tie
+use Rattle.moving.proofs.rename.Reads as reads
+use Rattle.moving.proofs.rename.Lts as lts
+use Rattle.moving.proofs.relocate.Reads as relocate-reads
 use Rattle.words.proofs.tuple.Tuple.index_of.Reads as index-of-reads
 use Rattle.words.proofs.tuple.is_address.Reads as is-address-reads
 

@@ -7,13 +7,13 @@ use borrow.Author.Tests.{not-true, not-false}
 use Rattle.model.specs.Headers.{tuple}
 use Rattle.model.specs.Soundness.{all}
 use Rattle.runs.specs.Runs.{run}
-use Rattle.checker.specs.Marks.{isValueByMarks}
-use Rattle.checker.proofs.Turns.{run-passed, run-failed, run-ended}
-use Rattle.checker.proofs.are_values.Statement.{statement}
-use Rattle.checker.proofs.are_values.Tie as tie
-use Rattle.checker.proofs.are_values.Reads as reads
-use Rattle.checker.proofs.are_values.Lts as lts
-use Rattle.checker.proofs.is_value.Reads as is-value-reads
+use Rattle.marks.specs.Marks.{isValueByMarks}
+use Rattle.marks.proofs.Turns.{run-passed, run-failed, run-ended}
+use Rattle.marks.proofs.are_values.Statement.{statement}
+use Rattle.marks.proofs.are_values.Tie as tie
+use Rattle.marks.proofs.are_values.Reads as reads
+use Rattle.marks.proofs.are_values.Lts as lts
+use Rattle.marks.proofs.is_value.Reads as is-value-reads
 
 abbrev Inv-loop : tie.InvT-loop
 Inv-loop slice from n heap part i₀ i =

@@ -1,13 +1,13 @@
 -- `checker::fields_are_values` meets its contract: a case law for each return.
 use mathlib.Core.Path.{sym, _∙_}
 use Rattle.model.specs.Headers.{tuple}
-use Rattle.checker.proofs.Turns.{fields-untraced, fields-traced}
+use Rattle.marks.proofs.Turns.{fields-untraced, fields-traced}
 use borrow.Author.Needs.{needs}
-use Rattle.checker.proofs.fields_are_values.Statement.{statement}
-use Rattle.checker.proofs.fields_are_values.Tie as tie
-use Rattle.checker.proofs.fields_are_values.Reads as reads
-use Rattle.checker.proofs.fields_are_values.Lts as lts
-use Rattle.checker.proofs.are_values.Reads as are-values-reads
+use Rattle.marks.proofs.fields_are_values.Statement.{statement}
+use Rattle.marks.proofs.fields_are_values.Tie as tie
+use Rattle.marks.proofs.fields_are_values.Reads as reads
+use Rattle.marks.proofs.fields_are_values.Lts as lts
+use Rattle.marks.proofs.are_values.Reads as are-values-reads
 use Rattle.words.proofs.tuple.Tuple.count_of.Reads as count-of-reads
 use Rattle.words.proofs.tuple.Tuple.is_traced.Reads as is-traced-reads
 

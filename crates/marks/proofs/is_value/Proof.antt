@@ -2,11 +2,11 @@
 use native.Mathlib.Omega.{arith}
 use mathlib.Core.Path.{sym}
 use borrow.Author.Needs.{needs}
-use Rattle.checker.proofs.Turns.{value-odd, value-null, value-askew, value-low, value-high, value-marked}
-use Rattle.checker.proofs.is_value.Statement.{statement}
-use Rattle.checker.proofs.is_value.Tie as tie
-use Rattle.checker.proofs.is_value.Reads as reads
-use Rattle.checker.proofs.is_value.Lts as lts
+use Rattle.marks.proofs.Turns.{value-odd, value-null, value-askew, value-low, value-high, value-marked}
+use Rattle.marks.proofs.is_value.Statement.{statement}
+use Rattle.marks.proofs.is_value.Tie as tie
+use Rattle.marks.proofs.is_value.Reads as reads
+use Rattle.marks.proofs.is_value.Lts as lts
 use Rattle.words.proofs.tuple.Tuple.index_of.Reads as index-of-reads
 
 returns : tie.Need-returns

@@ -14,8 +14,8 @@ use Rattle.model.specs.Objects.{address, index, size}
 use Rattle.model.proofs.Tests.{by-test}
 use Rattle.runs.specs.Runs.{copiedRun}
 use Rattle.runs.proofs.RunLaws.{copied-length, copied-front}
-use Rattle.engine.specs.declared.moving.Met.the-variants.{Plain, Copied, Found}
-use Rattle.engine.specs.Moving.{left, moved, relocated, renamed}
+use Rattle.moving.specs.declared.Met.the-variants.{Plain, Copied, Found}
+use Rattle.moving.specs.Moving.{left, moved, relocated, renamed}
 
 module _ (Y : Layout) where
   module _ (h : List ℕ) (i f : ℕ) where

@@ -1,7 +1,7 @@
 // One object moved to the free words, and one word renamed.
 ghost use mathlib.Core.Path.{_≡_};
 ghost use Rattle.model.specs.Headers.{tuple};
-ghost use Rattle.engine.specs.Moving.{left, relocated, renamed, MayMove, MayRename};
+ghost use Rattle.moving.specs.Moving.{left, relocated, renamed, MayMove, MayRename};
 use model::Address;
 use model::Index;
 use words::tuple;
@@ -29,7 +29,7 @@ pub struct Renamed {
 }
 
 // Moves the object at an index to the free words, unless that was done: then its header is the mark of the copy's address.
-pub(crate) fn relocate(heap: &mut [u32], object: Index, free: Index) -> Moved
+fn relocate(heap: &mut [u32], object: Index, free: Index) -> Moved
     requires { ⌜ MayMove tuple (now heap) (object .0) (free .0) ⌝ }
     ensures { λ r. ⌜ left (now (heap .exit)) (r .to .0) (r .free .0) (r .met) ≡ relocated tuple (now (heap .entry)) (object .0) (free .0) ⌝ }
 {
@@ -58,7 +58,7 @@ pub(crate) fn relocate(heap: &mut [u32], object: Index, free: Index) -> Moved
 }
 
 // Renames one word: a word that is no address stays.
-pub(crate) fn rename(heap: &mut [u32], word: u32, free: Index) -> Renamed
+pub fn rename(heap: &mut [u32], word: u32, free: Index) -> Renamed
     requires { ⌜ MayRename tuple (now heap) word (free .0) ⌝ }
     ensures { λ r. ⌜ left (now (heap .exit)) (r .word) (r .free .0) (r .met) ≡ renamed tuple (now (heap .entry)) word (free .0) ⌝ }
 {

@@ -14,8 +14,8 @@ use Rattle.model.specs.Objects.{isTraced, index, kind, fieldCount, size}
 use Rattle.model.specs.Soundness.{all}
 use Rattle.model.specs.Words.{at}
 use Rattle.runs.specs.Runs.{run}
-use Rattle.checker.specs.declared.Part.{Part}
-use Rattle.checker.specs.Marks.{markAt, marking, markHeaders, isValueByMarks, fieldsAreValuesByMarks}
+use Rattle.marks.specs.declared.Part.{Part}
+use Rattle.marks.specs.Marks.{markAt, marking, markHeaders, isValueByMarks, fieldsAreValuesByMarks}
 
 -- ---- a run of words, tested one after the other
 module _ (q : ℕ → Bool) (l : List ℕ) (from n i : ℕ) where

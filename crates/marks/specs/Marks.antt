@@ -11,7 +11,7 @@ use Rattle.model.specs.Objects.{isTraced, index, kind, size, fieldWords}
 use Rattle.model.specs.Soundness.{all, allZero, tiles, headersFrom}
 use Rattle.model.specs.Values.{isAddress, isNull}
 use Rattle.model.specs.Words.{at, other, firstOf}
-use Rattle.checker.specs.declared.Part.{Part}
+use Rattle.marks.specs.declared.Part.{Part}
 
 -- a part by its numbers: the first word, the free index, and where the mark of the first word stands
 abbrev pub part : ℕ → ℕ → ℕ → Part
