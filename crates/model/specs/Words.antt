@@ -19,7 +19,7 @@ pub record State : Type 0 where
 abbrev pub lent : List ℕ → List ℕ → Record → State
 lent H R q = record { heap = H; roots = R; «record» = q }
 
--- a word of a run. Past the end it reads 0, which no answer shows: each call tests an index before it looks.
+-- a word of a run. Past the end it reads 0: each call tests an index before it looks.
 abbrev pub at : List ℕ → ℕ → ℕ
 at H i = getD H i 0
 

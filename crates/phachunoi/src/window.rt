@@ -24,7 +24,7 @@ pub extern "C" fn phachunoi_open(
 ) -> CWindow
     ensures { λ r. ⌜ r ≡ Numbers.opened (window Layouts.tuple object) (now (heap .entry)) (now (roots .entry)) «record» ⌝ }
 {
-    let place = views::window::find(heap, roots, record_of(record), object);
+    let place = views::place::find(heap, roots, record_of(record), object);
     window_of(place)
 }
 

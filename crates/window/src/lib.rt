@@ -54,7 +54,7 @@ pub fn word_at(words: &[u32], place: Place, field: usize) -> Answer
 pub fn open<'a>(heap: &'a [u32], roots: &[u32], record: Record, object: usize) -> Window<'a>
     ensures { λ w. ⌜ (w .words ≡ heap .entry) × (w .place ≡ Windows.window Layouts.tuple object (lent (now (heap .entry)) (now (roots .entry)) «record»)) ⌝ }
 {
-    let place = views::window::find(heap, roots, record, object);
+    let place = views::place::find(heap, roots, record, object);
     Window { words: heap, place }
 }
 

@@ -1,4 +1,4 @@
--- `session::allocate::allocate` meets its contract: one case of the definition for each return.
+-- `allocator::allocate` meets its contract: one case of the definition for each return.
 use mathlib.Core.Path.{_≡_, _∙_, sym}
 use mathlib.Core.Bool.{false}
 use native.Mathlib.Omega.{arith}

@@ -1,4 +1,4 @@
--- `session::allocate::retry` meets its contract: one case of the definition for each return, over what the collection left.
+-- `allocator::retry` meets its contract: one case of the definition for each return, over what the collection left.
 use mathlib.Core.Path.{_≡_, _∙_, sym}
 use mathlib.Core.Bool.{true}
 use native.Mathlib.Omega.{arith}

@@ -1,4 +1,4 @@
--- `session::collect::collect` meets its contract: one case of the definition for each return.
+-- `collector::collect` meets its contract: one case of the definition for each return.
 use mathlib.Core.Path.{_≡_, _∙_, sym}
 use mathlib.Core.Bool.{false}
 use Rattle.model.specs.Headers.{tuple}

@@ -1,4 +1,4 @@
--- `phachunoi::numbers::answer` meets its contract: each number goes to its place.
+-- `crossing::answer` meets its contract: each number goes to its place.
 use mathlib.Core.Path.{sym}
 use borrow.Author.Needs.{needs}
 use Rattle.crossing.proofs.answer.Statement.{statement}

@@ -1,4 +1,4 @@
--- `phachunoi::numbers::collected` meets its contract: each number goes to its place.
+-- `crossing::collected` meets its contract: each number goes to its place.
 use mathlib.Core.Path.{sym}
 use borrow.Author.Needs.{needs}
 use Rattle.crossing.proofs.collected.Statement.{statement}

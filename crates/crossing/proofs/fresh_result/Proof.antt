@@ -1,4 +1,4 @@
--- `phachunoi::numbers::fresh_result` meets its contract, by whether fresh refused.
+-- `crossing::fresh_result` meets its contract, by whether fresh refused.
 use mathlib.Core.Path.{sym}
 use borrow.Author.Tests.{eq-eqb, ne-eqb}
 use borrow.Author.Needs.{needs}

@@ -1,4 +1,4 @@
--- `phachunoi::numbers::numbers_of` meets its contract, half by half.
+-- `crossing::numbers_of` meets its contract, half by half.
 use borrow.Author.Needs.{needs}
 use Rattle.crossing.proofs.numbers_of.Statement.{statement}
 use Rattle.crossing.proofs.numbers_of.Tie as tie

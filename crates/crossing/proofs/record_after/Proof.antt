@@ -1,4 +1,4 @@
--- `phachunoi::numbers::record_after` meets its contract, by whether the half is one.
+-- `crossing::record_after` meets its contract, by whether the half is one.
 use native.Mathlib.Omega.{arith}
 use borrow.Author.Tests.{lt-ltb, le-ltb}
 use borrow.Author.Needs.{needs}

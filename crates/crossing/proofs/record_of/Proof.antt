@@ -1,4 +1,4 @@
--- `phachunoi::numbers::record_of` meets its contract, half by half.
+-- `crossing::record_of` meets its contract, half by half.
 use native.Mathlib.Omega.{arith}
 use borrow.Author.Tests.{lt-ltb}
 use borrow.Author.Needs.{needs}

@@ -1,4 +1,4 @@
--- `phachunoi::numbers::seen` meets its contract: each number goes to its place.
+-- `crossing::seen` meets its contract: each number goes to its place.
 use mathlib.Core.Path.{ap, _∙_}
 use mir.Syntax.{w32}
 use mir.ValLaws.{toZ-ofZ}

@@ -1,4 +1,4 @@
--- `phachunoi::numbers::window_of` meets its contract: an object's place, or a refusal.
+-- `crossing::window_of` meets its contract: an object's place, or a refusal.
 use Prim.Native.Nat.{_+_}
 use native.Mathlib.Omega.{arith}
 use mathlib.Core.Path.{ap}

@@ -1,4 +1,4 @@
--- `collector::collect_sound` meets its contract: the evacuation of a sound heap leaves what `collected` says.
+-- `engine::collect_sound` meets its contract: the evacuation of a sound heap leaves what `collected` says.
 use native.Mathlib.Omega.{arith}
 use Rattle.model.proofs.Headers.{tuple-lawful}
 use Rattle.engine.proofs.Contract.{shape, may-evacuate, end-low, end-high, collect-is}

@@ -1,4 +1,4 @@
--- `collector::evacuate` meets its contract: its three calls are the three parts of `evacuated`.
+-- `engine::evacuate` meets its contract: its three calls are the three parts of `evacuated`.
 use Rattle.engine.proofs.RootLaws.{scan-safe, evacuated-is}
 use borrow.Author.Needs.{needs}
 use Rattle.engine.proofs.evacuate.Statement.{statement}

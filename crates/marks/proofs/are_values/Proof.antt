@@ -1,4 +1,4 @@
--- `checker::are_values` meets its contract. Invariant: the words left are values exactly where all are.
+-- `marks::are_values` meets its contract. Invariant: the words left are values exactly where all are.
 use Prim.Native.Nat.{_+_, _-_, _≤_}
 use native.Mathlib.Numerals.{unary-clauses}
 use native.Mathlib.Omega.{arith}

@@ -1,4 +1,4 @@
--- `checker::fields_are_values` meets its contract: a case law for each return.
+-- `marks::fields_are_values` meets its contract: a case law for each return.
 use mathlib.Core.Path.{sym, _∙_}
 use Rattle.model.specs.Headers.{tuple}
 use Rattle.marks.proofs.Turns.{fields-untraced, fields-traced}

@@ -1,4 +1,4 @@
--- `checker::is_value` meets its contract: a case law for each return.
+-- `marks::is_value` meets its contract: a case law for each return.
 use native.Mathlib.Omega.{arith}
 use mathlib.Core.Path.{sym}
 use borrow.Author.Needs.{needs}

@@ -1,4 +1,4 @@
--- `checker::mark_headers` meets its contract. Invariant: what is left to mark leaves what all of it leaves.
+-- `marks::mark_headers` meets its contract. Invariant: what is left to mark leaves what all of it leaves.
 use Prim.Native.Nat.{_-_, _≤_}
 use native.Mathlib.Omega.{arith}
 use mathlib.Core.Path.{_≡_, refl, sym, _∙_}

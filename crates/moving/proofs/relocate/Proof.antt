@@ -1,4 +1,4 @@
--- `collector::moving::relocate` meets its contract: each return is a case of `relocated`, from what the calls answer.
+-- `moving::relocate` meets its contract: each return is a case of `relocated`, from what the calls answer.
 use native.Mathlib.Omega.{arith}
 use mathlib.Core.Path.{sym, _∙_}
 use lib.ListN.{length-set}

@@ -1,4 +1,4 @@
--- `collector::moving::rename` meets its contract: an address is relocated, any other word stays.
+-- `moving::rename` meets its contract: an address is relocated, any other word stays.
 use mathlib.Core.Path.{sym, _∙_}
 use Rattle.moving.proofs.MovingLaws.{renamed-address, renamed-plain}
 use borrow.Author.Needs.{needs}

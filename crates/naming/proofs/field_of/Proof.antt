@@ -1,4 +1,4 @@
--- `objects::naming::field_of` meets its contract, by one law of its three tests; an object that is named lies in the heap.
+-- `naming::field_of` meets its contract, by one law of its three tests; an object that is named lies in the heap.
 use borrow.Author.Tests.{le-leb, lt-leb, not-false}
 use Prim.Native.Nat.{ℕ}
 use native.Mathlib.Omega.{arith}

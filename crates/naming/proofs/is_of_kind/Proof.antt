@@ -1,4 +1,4 @@
--- `objects::naming::is_of_kind` meets its contract, kind by kind.
+-- `naming::is_of_kind` meets its contract, kind by kind.
 use mathlib.Core.Path.{ap}
 use mathlib.Core.Bool.{not}
 use borrow.Author.Needs.{needs}

@@ -1,4 +1,4 @@
--- `objects::naming::names` meets its contract, by one law of its six tests.
+-- `naming::names` meets its contract, by one law of its six tests.
 use borrow.Author.Tests.{eq-eqb, ne-eqb, lt-ltb, le-ltb, le-leb, lt-leb, not-true, not-false}
 use Prim.Native.Nat.{ℕ, _+_}
 use mathlib.Core.Path.{refl, sym, ap, _∙_}

@@ -1,4 +1,4 @@
--- `words::numbers::object` meets its contract.
+-- `numbers::object` meets its contract.
 use borrow.Author.Needs.{needs}
 use Rattle.numbers.proofs.object.Statement.{statement}
 use Rattle.numbers.proofs.object.Tie as tie

@@ -1,4 +1,4 @@
--- `words::numbers::told` meets its contract: an arm for each answer.
+-- `numbers::told` meets its contract: an arm for each answer.
 use mathlib.Core.Path.{_∙_, ap}
 use mir.Syntax.{w32}
 use mir.ValLaws.{toZ-ofZ}

@@ -1,4 +1,4 @@
--- `objects::fields::raw_write` meets its contract: the call is what `reach` answers, read as a call's outcome.
+-- `objects::raw_write` meets its contract: the call is what `reach` answers, read as a call's outcome.
 use native.Mathlib.Omega.{arith}
 use mathlib.Core.Path.{sym, _∙_}
 use Rattle.model.specs.Words.{State, lent}

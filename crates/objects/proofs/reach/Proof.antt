@@ -1,4 +1,4 @@
--- `objects::fields::reach` meets its contract: SHAPE and ROOT test by test, the rest by `field_of`.
+-- `objects::reach` meets its contract: SHAPE and ROOT test by test, the rest by `field_of`.
 use Prim.Native.Nat.{_<_}
 use mathlib.Core.Path.{sym, _∙_}
 use lib.ListN.{length}

@@ -1,4 +1,4 @@
--- `words::runs::all_zero` meets its contract. Invariant: the words left are all 0 exactly where all are.
+-- `runs::all_zero` meets its contract. Invariant: the words left are all 0 exactly where all are.
 use mathlib.Core.Path.{_≡_, refl, sym, _∙_}
 use Prim.Native.Nat.{_+_}
 use native.Mathlib.Omega.{arith}

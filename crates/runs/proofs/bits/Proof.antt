@@ -1,4 +1,4 @@
--- `words::runs::bits` meets its contract. Invariant: no bit yet exactly where each word passed is 0.
+-- `runs::bits` meets its contract. Invariant: no bit yet exactly where each word passed is 0.
 use mathlib.Core.Path.{_≡_, refl}
 use Prim.Native.Nat.{_-_, _≤_}
 use native.Mathlib.Omega.{arith}

@@ -1,4 +1,4 @@
--- `words::runs::clear_few` meets its contract: each return is `cleared` at its number of words.
+-- `runs::clear_few` meets its contract: each return is `cleared` at its number of words.
 use native.Mathlib.Omega.{arith}
 use native.Mathlib.Nat.{add-zero}
 use mathlib.Core.Path.{_≡_}

@@ -1,4 +1,4 @@
--- `words::runs::clear_run` meets its contract. Invariant: the list is `cleared` of what it was, at the turns made.
+-- `runs::clear_run` meets its contract. Invariant: the list is `cleared` of what it was, at the turns made.
 use mathlib.Core.Path.{_≡_, refl}
 use Prim.Native.Nat.{_≤_, _-_}
 use native.Mathlib.Numerals.{add-one}

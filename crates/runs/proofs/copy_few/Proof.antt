@@ -1,4 +1,4 @@
--- `words::runs::copy_few` meets its contract: each return is `copiedRun` at its number of words.
+-- `runs::copy_few` meets its contract: each return is `copiedRun` at its number of words.
 use native.Mathlib.Omega.{arith}
 use native.Mathlib.Nat.{add-zero}
 use mathlib.Core.Path.{_≡_}

@@ -1,4 +1,4 @@
--- `session::step::step` meets its contract: each arm is the case of `step` for its call.
+-- `session::step` meets its contract: each arm is the case of `step` for its call.
 use mir.Syntax.{w64}
 use mir.ValLaws.{toZ-ofZ}
 use Rattle.model.specs.Sessions.{step}

@@ -51,10 +51,10 @@ use Rattle.model.proofs.Place.Laws as P′
 use Rattle.model.specs.declared.Record.{Record}
 use Rattle.model.proofs.Record as Q
 use Rattle.model.proofs.Record.Laws as Q′
-use Rattle.views.proofs.window.find as callee
-use Rattle.views.proofs.window.find.Symbol as callee-def
-use Rattle.views.proofs.window.find.Symbol.{name as #callee}
-use Rattle.views.proofs.window.find.Met as callee-thm
+use Rattle.views.proofs.place.find as callee
+use Rattle.views.proofs.place.find.Symbol as callee-def
+use Rattle.views.proofs.place.find.Symbol.{name as #callee}
+use Rattle.views.proofs.place.find.Met as callee-thm
 use Rattle.window.proofs.open.Key.{name as #self}
 use Rattle.window.proofs.open as self
 use Rattle.window.proofs.open.Statement as stated
@@ -177,4 +177,4 @@ open-spec 𝓤 H 𝓜 𝓖 𝓡 =
     entered 𝓤 H (tripleOf 𝓤 H (𝓖 .A) self.signature (self.spec 𝓤 H (𝓖 .A) (𝓜 .mem) (𝓡 .run)))
     (tables 𝓤 H 𝓜 𝓡 code.env .C) (tables 𝓤 H 𝓜 𝓡 code.env .Λ) #self code.function (code.unfolded 𝓤 H 𝓜 𝓡)
     (meets 𝓤 H (𝓖 .A) (givenOf 𝓤 H 𝓜 𝓖) (𝓜 .mem) (𝓡 .run) (tablesOf 𝓤 H 𝓜 (tables 𝓤 H 𝓜 𝓡 code.env))
-    (cited 𝓤 H (Callee 𝓤 H (𝓖 .A) (𝓜 .mem) (𝓡 .run)) 𝓜 𝓡 code.env #callee callee-def.routine code.calls-views·window·find (callee-thm.met 𝓤 H 𝓜 𝓖 𝓡)))
+    (cited 𝓤 H (Callee 𝓤 H (𝓖 .A) (𝓜 .mem) (𝓡 .run)) 𝓜 𝓡 code.env #callee callee-def.routine code.calls-views·place·find (callee-thm.met 𝓤 H 𝓜 𝓖 𝓡)))

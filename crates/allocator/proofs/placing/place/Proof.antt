@@ -1,4 +1,4 @@
--- `session::placing::place` meets its contract: its three stores are those of `placed`.
+-- `allocator::placing::place` meets its contract: its three stores are those of `placed`.
 use mathlib.Core.Path.{ap, _∙_}
 use native.Mathlib.Omega.{arith}
 use lib.ListN.{length, length-set}

@@ -1,4 +1,4 @@
--- `session::placing::spare_of` meets its contract: the half ends within the heap.
+-- `allocator::placing::spare_of` meets its contract: the half ends within the heap.
 use Prim.Native.Nat.{_-_, _/_}
 use native.Mathlib.Omega.{arith}
 use Rattle.model.proofs.Shape.{first-most}

@@ -1,4 +1,4 @@
--- `collector::scanning::pass_field` meets its contract: a field that named no object holds what would be written.
+-- `engine::scanning::pass_field` meets its contract: a field that named no object holds what would be written.
 use Rattle.engine.proofs.PassingLaws.{field-plain, field-stored}
 use borrow.Author.Needs.{needs}
 use Rattle.engine.proofs.scanning.pass_field.Statement.{statement}

@@ -1,4 +1,4 @@
--- `collector::scanning::pass_objects` meets its contract. The invariant: to pass what is left gives what passing all gave.
+-- `engine::scanning::pass_objects` meets its contract. The invariant: to pass what is left gives what passing all gave.
 use Prim.Native.Nat.{_-_}
 use mathlib.Core.Path.{_≡_, refl, ap, _∙_}
 use lib.ListN.{length}

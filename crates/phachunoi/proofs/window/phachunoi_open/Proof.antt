@@ -5,7 +5,7 @@ use Rattle.phachunoi.proofs.window.phachunoi_open.Statement.{statement}
 use Rattle.phachunoi.proofs.window.phachunoi_open.Tie as tie
 use Rattle.phachunoi.proofs.window.phachunoi_open.Reads as reads
 use Rattle.phachunoi.proofs.window.phachunoi_open.Lts as lts
-use Rattle.views.proofs.window.find.Reads as find-reads
+use Rattle.views.proofs.place.find.Reads as find-reads
 use Rattle.crossing.proofs.record_of.Reads as record-of-reads
 use Rattle.crossing.proofs.window_of.Reads as window-of-reads
 

@@ -1,4 +1,4 @@
--- `objects::inspect::inspect` meets its contract, test by test; an object that is named lies in the heap.
+-- `views::inspect::inspect` meets its contract, test by test; an object that is named lies in the heap.
 use Prim.Native.Nat.{_<_}
 use borrow.Author.Tests.{le-leb, not-true, not-false}
 use mathlib.Core.Path.{_≡_, sym, ap, _∙_}

@@ -1,4 +1,4 @@
--- `objects::window::find` meets its contract, test by test; an object that is named lies in the heap.
+-- `views::place::find` meets its contract, test by test; an object that is named lies in the heap.
 use Prim.Native.Nat.{_<_}
 use borrow.Author.Tests.{le-leb, lt-leb, not-false}
 use mathlib.Core.Path.{_≡_, sym, ap, _∙_}
@@ -9,10 +9,10 @@ use Rattle.model.specs.Shape.{badShape}
 use Rattle.model.specs.Window.{window}
 use Rattle.naming.proofs.NamedObjects.{free-in-heap, header-below}
 use borrow.Author.Needs.{needs}
-use Rattle.views.proofs.window.find.Statement.{statement}
-use Rattle.views.proofs.window.find.Tie as tie
-use Rattle.views.proofs.window.find.Reads as reads
-use Rattle.views.proofs.window.find.Lts as lts
+use Rattle.views.proofs.place.find.Statement.{statement}
+use Rattle.views.proofs.place.find.Tie as tie
+use Rattle.views.proofs.place.find.Reads as reads
+use Rattle.views.proofs.place.find.Lts as lts
 use Rattle.naming.proofs.names.Reads as names-reads
 use Rattle.words.proofs.shape.bad_shape.Reads as bad-shape-reads
 use Rattle.words.proofs.tuple.Tuple.count_of.Reads as count-of-reads
