@@ -33,16 +33,9 @@ static enum fault look_up(struct lisp *l, slot symbol, slot env, slot to) {
 }
 
 enum fault bind(struct lisp *l, slot symbol, slot value, slot env) {
-  slot mark = height(l), binding;
+  const slot values[] = {symbol, value, env};
   TRY(want(l, symbol, SYMBOL));
-  TRY(push(l, &binding));
-  TRY(make(l, BINDING, 3, binding));
-  TRY(put(l, binding, BINDING_SYMBOL, symbol));
-  TRY(put(l, binding, BINDING_VALUE, value));
-  TRY(put(l, binding, BINDING_NEXT, env));
-  TRY(copy(l, binding, env));
-  pop_to(l, mark);
-  return FINE;
+  return make_of(l, BINDING, values, 3, env);
 }
 
 enum fault define(struct lisp *l, slot symbol, slot value) {

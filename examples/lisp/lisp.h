@@ -70,6 +70,7 @@ size_t field_count(struct lisp *l, slot s); /* without the type */
 int same(struct lisp *l, slot one, slot other);
 
 enum fault make(struct lisp *l, enum type type, size_t fields, slot to); /* fields are null */
+enum fault make_of(struct lisp *l, enum type type, const slot *values, size_t count, slot to); /* by field number */
 enum fault make_pair(struct lisp *l, slot car, slot cdr, slot to);
 enum fault car(struct lisp *l, slot pair, slot to); /* WRONG_TYPE unless it is a pair */
 enum fault cdr(struct lisp *l, slot pair, slot to);

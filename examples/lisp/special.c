@@ -33,24 +33,22 @@ static enum fault form_if(struct lisp *l, slot form, slot env, slot to, int *aga
 }
 
 static enum fault make_closure(struct lisp *l, slot parameters, slot body, slot env, slot to) {
-  slot mark = height(l), closure;
-  TRY(push(l, &closure));
-  TRY(make(l, CLOSURE, 3, closure));
-  TRY(put(l, closure, CLOSURE_PARAMETERS, parameters));
-  TRY(put(l, closure, CLOSURE_BODY, body));
-  TRY(put(l, closure, CLOSURE_ENVIRONMENT, env));
-  TRY(copy(l, closure, to));
-  pop_to(l, mark);
-  return FINE;
+  const slot values[] = {parameters, body, env};
+  return make_of(l, CLOSURE, values, 3, to);
+}
+
+/* A form's first part and the others, each in a new slot. */
+static enum fault take_apart(struct lisp *l, slot form, slot *first, slot *rest) {
+  TRY(push(l, first));
+  TRY(push(l, rest));
+  TRY(car(l, form, *first));
+  return cdr(l, form, *rest);
 }
 
 static enum fault form_lambda(struct lisp *l, slot form, slot env, slot to, int *again) {
   slot mark = height(l), parameters, body;
   (void)again;
-  TRY(push(l, &parameters));
-  TRY(push(l, &body));
-  TRY(car(l, form, parameters));
-  TRY(cdr(l, form, body));
+  TRY(take_apart(l, form, &parameters, &body));
   TRY(make_closure(l, parameters, body, env, to));
   pop_to(l, mark);
   return FINE;
@@ -59,10 +57,7 @@ static enum fault form_lambda(struct lisp *l, slot form, slot env, slot to, int 
 /* (define name value), or (define (name parameters..) body..) */
 static enum fault form_define(struct lisp *l, slot form, slot env, slot to, int *again) {
   slot mark = height(l), target, rest;
-  TRY(push(l, &target));
-  TRY(push(l, &rest));
-  TRY(car(l, form, target));
-  TRY(cdr(l, form, rest));
+  TRY(take_apart(l, form, &target, &rest));
   if (type_of(l, target) == PAIR) {
     TRY(cdr(l, target, to));
     TRY(make_closure(l, to, rest, env, to));

@@ -99,15 +99,21 @@ enum fault make(struct lisp *l, enum type type, size_t fields, slot to) {
   return FINE;
 }
 
-enum fault make_pair(struct lisp *l, slot car, slot cdr, slot to) {
-  slot mark = height(l), pair;
-  TRY(push(l, &pair));
-  TRY(make(l, PAIR, 2, pair));
-  TRY(put(l, pair, CAR, car));
-  TRY(put(l, pair, CDR, cdr));
-  TRY(copy(l, pair, to));
+/* In a slot of its own until it is whole: `to` may be one of the values. */
+enum fault make_of(struct lisp *l, enum type type, const slot *values, size_t count, slot to) {
+  slot mark = height(l), object;
+  size_t i;
+  TRY(push(l, &object));
+  TRY(make(l, type, count, object));
+  for (i = 0; i < count; i++) TRY(put(l, object, i + 1, values[i]));
+  TRY(copy(l, object, to));
   pop_to(l, mark);
   return FINE;
+}
+
+enum fault make_pair(struct lisp *l, slot car, slot cdr, slot to) {
+  const slot values[] = {car, cdr};
+  return make_of(l, PAIR, values, 2, to);
 }
 
 enum fault car(struct lisp *l, slot pair, slot to) {
