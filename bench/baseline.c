@@ -26,15 +26,27 @@ static inline uint32_t first_word(const struct state *s, uint32_t half) { return
 
 /* ---- (a) the copying ---- */
 
-/* Few words are copied by a plain loop, which a compiler would make slower for them. */
+/* Up to four words straight, up to twelve by a plain loop, more by the C library. */
 static inline uint32_t *copy_words(uint32_t *to, const uint32_t *from, uint32_t n) {
-  if (RARELY(n > 12)) {
-    memcpy(to, from, n * sizeof *to);
-    return to + n;
-  }
+  uint32_t *end = to + n;
+  if (n > 4) {
+    if (n > 12) {
+      memcpy(to, from, n * sizeof *to);
+      return end;
+    }
 #pragma clang loop vectorize(disable) unroll(disable)
-  while (n-- > 0) *to++ = *from++;
-  return to;
+    while (to < end) *to++ = *from++;
+    return end;
+  }
+  if (n == 0) return end;
+  to[0] = from[0];
+  if (n == 1) return end;
+  to[1] = from[1];
+  if (n == 2) return end;
+  to[2] = from[2];
+  if (n == 3) return end;
+  to[3] = from[3];
+  return end;
 }
 
 /* The new address of the object at an address; it is copied to the free words when it is met first. */
@@ -57,7 +69,10 @@ static inline uint32_t *copy_reachable(uint32_t *heap, uint32_t *root, size_t ro
   while (scan < free) {
     uint32_t header = *scan++;
     end = scan + count_of(header);
-    if (header >> 31) scan = end;
+    if (RARELY(header >> 31)) { /* a jump, not a move that the next load would wait for */
+      scan = end;
+      continue;
+    }
     for (; scan < end; scan++)
       if (is_address(*scan)) *scan = forward(heap, *scan, &free);
   }
@@ -127,14 +142,14 @@ static inline int are_values(const struct part *p, const uint32_t *word, size_t 
 }
 
 static inline int mark_headers(const struct part *p, int by_word) {
-  uint32_t k, n;
-  for (k = 0; k < p->used; k += n + 1) {
+  uint32_t k = 0;
+  while (k < p->used) {
     uint32_t header = p->first[k];
-    n = count_of(header);
-    if (RARELY((header & 1) | (n >= p->used - k))) return 0;
+    if (RARELY(header & 1)) return 0;
     set_mark(p, k, by_word);
+    k += count_of(header) + 1;
   }
-  return 1;
+  return k == p->used;
 }
 
 static inline int fields_are_values(const struct part *p, int by_word) {
@@ -147,7 +162,7 @@ static inline int fields_are_values(const struct part *p, int by_word) {
   return 1;
 }
 
-static inline int check_with(struct state *s, int by_word) {
+static inline __attribute__((always_inline)) int check_with(struct state *s, int by_word) {
   uint32_t size = half_size(s), first, sound;
   struct part p;
   if (bad_shape(s)) return 0;
@@ -184,17 +199,28 @@ uint32_t full_collect_words(struct state *s) {
 
 /* ---- (c) allocation ---- */
 
-static inline uint32_t place(struct state *s, uint32_t n, size_t to, int untraced) {
-  uint32_t *word = s->heap + s->free;
-  *word++ = (uint32_t)untraced << 31 | n << 1;
-  s->roots[to] = 4 * s->free;
-  s->free += n + 1;
-  if (RARELY(n > 8)) {
+/* Up to four zeros straight, more by the C library. */
+static inline void clear_words(uint32_t *word, uint32_t n) {
+  if (n > 4) {
     memset(word, 0, n * sizeof *word);
-    return 0;
+    return;
   }
-#pragma clang loop vectorize(disable) unroll(disable)
-  while (n-- > 0) *word++ = 0;
+  if (n == 0) return;
+  word[0] = 0;
+  if (n == 1) return;
+  word[1] = 0;
+  if (n == 2) return;
+  word[2] = 0;
+  if (n == 3) return;
+  word[3] = 0;
+}
+
+static inline uint32_t place(struct state *s, uint32_t n, size_t to, int untraced) {
+  uint32_t free = s->free, *word = s->heap + free;
+  s->free = free + n + 1;
+  s->roots[to] = 4 * free;
+  word[0] = (uint32_t)untraced << 31 | n << 1;
+  clear_words(word + 1, n);
   return 0;
 }
 
