@@ -16,9 +16,15 @@ static int counting;
 static unsigned rounds = 21;
 static long tag;
 
+/* Tag 0 is what the marks themselves cost, with nothing between them; bench/table.py takes it off. */
 void rounds_begin(int argc, char **argv) {
+  int turn;
   counting = argc > 1 && strcmp(argv[1], "count") == 0;
   if (argc > 1 && !counting) rounds = (unsigned)atoi(argv[1]);
+  for (turn = 0; counting && turn < 2; turn++) {
+    syscall(COUNT_FROM_HERE);
+    syscall(COUNT_TO_HERE, 0L);
+  }
 }
 
 int rounds_counting(void) { return counting; }

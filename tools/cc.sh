@@ -13,6 +13,7 @@
 #   tools/cc.sh kit-build OUT WORDS..      as build; object files may be among WORDS
 #   tools/cc.sh kit-count LOG OUT WORDS..  the same in Debian's emulator, which writes to LOG what its plugin
 #                                          bench/icount.c counts
+#   tools/cc.sh has FILE PACKAGE           whether a file is there, once its Debian package may have been installed
 #   tools/cc.sh own-build OUT WORDS..      as kit-build, but for this machine's processor and with its C library
 set -u
 
@@ -24,12 +25,16 @@ die() {
 there() { [ -e "$1" ] || command -v "$1" >/dev/null 2>&1; }
 
 # The command or file $1; if it is missing, the Debian package $2 is installed by name where that can be done.
-need() {
+has() {
     there "$1" && return
     if [ "$(id -u)" = 0 ] && there apt-get; then
         apt-get install -y "$2" >/dev/null 2>&1 || true
     fi
-    there "$1" || die "'$1' is missing: install the Debian package '$2' (as root: apt-get install $2)"
+    there "$1"
+}
+
+need() {
+    has "$1" "$2" || die "'$1' is missing: install the Debian package '$2' (as root: apt-get install $2)"
 }
 
 find_kit() {
@@ -143,6 +148,7 @@ aarch64-build) build_for_x86 compile_for_x86 "$@" ;;
 aarch64-compile) compile_for_x86 "$@" ;;
 aarch64-run) run_emulated "$@" ;;
 aarch64-pace) echo emulated ;;
+*-has) has "$@" ;;
 *-kit-clang) kit_clang "$@" ;;
 *-kit-ar) find_kit && "$tools/bin/llvm-ar" "$@" ;;
 *-kit-build) build_for_x86 compile_by_kit "$@" ;;
