@@ -7,22 +7,28 @@ use mathlib.Core.Bool.{Bool, true, false}
 use mathlib.Core.List.{List, []}
 use lib.ListN.{length}
 use Rattle.model.specs.declared.Record.{Record}
+use Rattle.model.specs.declared.Kind.{Kind}
 use Rattle.model.specs.declared.Call.{Call}
+use Rattle.model.specs.declared.Call.the-variants as Ask
+use Rattle.model.specs.declared.Answer.the-variants as Says
 use Rattle.model.specs.declared.Answered.{Answered}
 use Rattle.model.specs.declared.Told.{Told}
 use Rattle.model.specs.declared.Place.{Place}
 use Rattle.model.specs.Words.{State, lent, free}
 use Rattle.model.specs.Headers.{tuple}
 use Rattle.model.specs.Shape.{badLength}
-use Rattle.model.specs.Answers.{Outcome, outcome, told, refuse}
-use Rattle.model.specs.Calls.{fresh}
+use Rattle.model.specs.Answers.{Outcome, outcome, says, told, refuse}
+use Rattle.model.specs.Calls.{fresh, allocate}
 use Rattle.model.specs.Window.{window}
 use Rattle.model.specs.Sessions.{step}
 use Rattle.phachunoi.specs.declared.numbers.CRecord.{CRecord}
 use Rattle.phachunoi.specs.declared.numbers.CResult.{CResult}
 use Rattle.phachunoi.specs.declared.numbers.CWindow.{CWindow}
-use Rattle.phachunoi.specs.Numbers.{Given, given, called, begun, result, noHalf, windowNumbers, opened}
+use Rattle.phachunoi.specs.Numbers.{Given, given, inNumbers, called, begun, result, noHalf, numbersOf, recordOf, windowNumbers, opened}
 use Rattle.phachunoi.specs.Crossing.{nowhere, taken, back, freshBack, Narrow, NarrowPlace}
+use Rattle.model.proofs.Tests.{never}
+use Rattle.session.specs.Placing.{atOnce}
+use Rattle.session.proofs.AllocateCases.{at-once-shaped}
 use Rattle.phachunoi.proofs.ShapeFirst.{nowhere-bad, shape-first, window-shape}
 use Rattle.phachunoi.proofs.FreeIndexes.{step-narrow, window-narrow}
 
@@ -56,6 +62,37 @@ taken-narrow c e n = subst (λ q. Narrow (q .free .0)) (sym e) (go (noHalf c) re
 pub narrow : {H′ R′ : List ℕ} {q : Record} {o : Answered} (c : CRecord) (H R : List ℕ) (k : Call) → q ≡ taken c → outcome o H′ R′ ≡ step tuple k (lent H R q)
     → Narrow (c .free) → Narrow (o .«record» .free .0)
 narrow c H R k e f n = subst (λ (o : Outcome). Narrow (free (o .left))) (sym f) (step-narrow tuple (lent H R _) (taken-narrow c e n) k)
+
+-- an allocation at once: the record that came has a half, since no other fits
+taken-nowhere : (c : CRecord) → noHalf c ≡ true → taken c ≡ nowhere
+taken-nowhere c z = rw z
+
+taken-there : (c : CRecord) → noHalf c ≡ false → taken c ≡ recordOf c
+taken-there c z = rw z
+
+called-there : (f : State → Outcome) (H R : List ℕ) (c : CRecord) → noHalf c ≡ false → inNumbers result (f (lent H R (recordOf c))) ≡ called result f H R c
+unfolding called
+called-there f H R c z = rw z
+
+module _ {H′ R′ : List ℕ} {p q : Record} (c : CRecord) (H R : List ℕ) (k : Kind) (n r : ℕ) (e : q ≡ taken c) (f : atOnce (length H) (length R) q n r ≡ true)
+    (g : says Says.Done (lent H′ R′ p) ≡ allocate tuple k n r (lent H R q)) where
+  has-half : noHalf c ≡ false
+  has-half = go (noHalf c) refl
+    where
+      go : (b : Bool) → noHalf c ≡ b → noHalf c ≡ false
+      go false z = z
+      go true z = never (nowhere-bad H R) (at-once-shaped tuple k n r (lent H R nowhere) (subst (λ (x : Record). atOnce (length H) (length R) x n r ≡ true) (e ∙ taken-nowhere c z) f))
+
+  pub at-once-crosses : {a : CResult} → a ≡ result (told Says.Done) (numbersOf p) → given a H′ R′ ≡ called result (allocate tuple k n r) H R c
+  at-once-crosses h =
+      ap (λ (x : CResult). given x H′ R′) h
+      ∙ ap (inNumbers result) g
+      ∙ ap (λ (x : Record). inNumbers result (allocate tuple k n r (lent H R x))) (e ∙ taken-there c has-half)
+      ∙ called-there (allocate tuple k n r) H R c has-half
+
+  pub at-once-narrow : Narrow (c .free) → Narrow (p .free .0)
+  unfolding step
+  at-once-narrow m = subst (λ (o : Outcome). Narrow (free (o .left))) (sym g) (step-narrow tuple (lent H R q) (taken-narrow c e m) (Ask.Allocate k n r))
 
 -- fresh: it does not look at the record that it is given
 pub fresh-crosses : {H′ : List ℕ} {o : Answered} {r : CResult} (H : List ℕ) (q : Record) (c : CRecord) → outcome o H′ [] ≡ fresh (lent H [] q)
