@@ -31,7 +31,8 @@ static const struct {
 
 static unsigned long differences;
 
-static void compare(const struct state *s, const struct state *expected, int verdict, const char *name, unsigned long heap) {
+static void compare(const struct state *s, const struct state *expected, int verdict, const char *name,
+                    unsigned long heap) {
   if (verdict && s->half == expected->half && s->free == expected->free &&
       memcmp(s->heap, expected->heap, MOST_WORDS * sizeof *s->heap) == 0 &&
       memcmp(s->roots, expected->roots, MOST_ROOTS * sizeof *s->roots) == 0)

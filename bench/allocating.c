@@ -1,4 +1,5 @@
-/* Allocations that fit: a half is filled with objects of n fields, through the archive's C boundary and by the baseline. */
+/* Allocations that fit: a half is filled with objects of n fields, through the archive's boundary to C and by the
+   baseline. */
 #include <stdio.h>
 #include <stdlib.h>
 

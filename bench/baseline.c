@@ -1,5 +1,5 @@
-/* Collectors, checks and an allocation in C, as fast as plain C makes them: no table, no call, no test in a loop that can
-   be left out. In this order: words, (a), the check, (b), (c). */
+/* Collectors, checks and an allocation in C, as fast as plain C makes them: no call and no test in a loop that can be
+   left out. In this order: words, (a), the check, (b), (c). */
 #include "baseline.h"
 
 #include <string.h>
@@ -172,7 +172,8 @@ static inline __attribute__((always_inline)) int check_with(struct state *s, int
   p.used = s->free - first;
   p.address = 4 * first;
   if (s->heap[0] || !all_zero(p.marks, size) || !all_zero(s->heap + s->free, size - p.used)) return 0;
-  sound = mark_headers(&p, by_word) && are_values(&p, s->roots, s->root_count, by_word) && fields_are_values(&p, by_word);
+  sound = mark_headers(&p, by_word) && are_values(&p, s->roots, s->root_count, by_word) &&
+          fields_are_values(&p, by_word);
   memset(p.marks, 0, (by_word ? p.used : (p.used + 31) / 32) * sizeof *p.marks);
   return sound != 0;
 }
@@ -228,7 +229,8 @@ static inline int fits(const struct state *s, size_t n) {
   return n < first_word(s, s->half) + half_size(s) - s->free;
 }
 
-static __attribute__((noinline, cold)) uint32_t collect_and_place(struct state *s, size_t n, size_t to, int untraced, int bare) {
+static __attribute__((noinline, cold)) uint32_t collect_and_place(struct state *s, size_t n, size_t to, int untraced,
+                                                                  int bare) {
   if (bare) bare_collect(s);
   else if (full_collect(s)) return DAMAGED;
   return fits(s, n) ? place(s, (uint32_t)n, to, untraced) : ROOM;
@@ -242,6 +244,10 @@ static inline uint32_t allocate_with(struct state *s, size_t n, size_t to, int u
   return place(s, (uint32_t)n, to, untraced);
 }
 
-uint32_t full_allocate(struct state *s, size_t n, size_t to, int untraced) { return allocate_with(s, n, to, untraced, 0); }
+uint32_t full_allocate(struct state *s, size_t n, size_t to, int untraced) {
+  return allocate_with(s, n, to, untraced, 0);
+}
 
-uint32_t bare_allocate(struct state *s, size_t n, size_t to, int untraced) { return allocate_with(s, n, to, untraced, 1); }
+uint32_t bare_allocate(struct state *s, size_t n, size_t to, int untraced) {
+  return allocate_with(s, n, to, untraced, 1);
+}

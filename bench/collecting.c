@@ -12,7 +12,8 @@ static int equal(const struct state *one, const struct state *other) {
          memcmp(one->roots, other->roots, one->root_count * sizeof *one->roots) == 0;
 }
 
-static void hold(const struct state *expected, const struct state *start, const struct contender *c, const char *workload) {
+static void hold(const struct state *expected, const struct state *start, const struct contender *c,
+                 const char *workload) {
   struct state *s = copy_of(start);
   c->run(s, 1);
   if (equal(s, expected)) return;

@@ -1,6 +1,6 @@
 /* A plugin of the emulator qemu-user that counts the instructions a program runs between two marks.
-   The marks are calls of the system that no system has: 500001 sets the count to 0, 500002 prints 'count TAG INSTRUCTIONS',
-   its argument being the tag. Debian packages no header for plugins, so what is used of it is declared here. */
+   The marks are calls of the system that no system has: 500001 sets the count to 0, 500002 prints 'count TAG
+   INSTRUCTIONS', its argument being the tag. Debian packages no header for plugins, so what is used is declared here. */
 #include <inttypes.h>
 #include <stddef.h>
 #include <stdio.h>

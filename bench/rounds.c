@@ -1,5 +1,5 @@
-/* Rounds: in each, every contender has its turn, in an order that moves on by one and turns round from round to round, on
-   the same words at the same addresses. Ratios are taken inside a round, by bench/table.py. */
+/* Rounds: in each, every contender has its turn, in an order that moves on and turns round from round to round, on the
+   same words at the same addresses. Ratios are taken inside a round, by bench/table.py. */
 #define _GNU_SOURCE
 #include "rounds.h"
 

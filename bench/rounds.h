@@ -15,8 +15,8 @@ int rounds_counting(void);
 
 /* Runs each contender on a copy of the heap `start`, `times` times in a row, and prints a line for each and each round:
        time SUBJECT WORKLOAD CONTENDER TIMES NANOSECONDS
-   or, where instructions are counted, once: 'tag NUMBER SUBJECT WORKLOAD CONTENDER TIMES'; the emulator says 'count NUMBER
-   INSTRUCTIONS'. Making the copy is not measured. */
+   or, where instructions are counted, once: 'tag NUMBER SUBJECT WORKLOAD CONTENDER TIMES'; the emulator says
+   'count NUMBER INSTRUCTIONS'. Making the copy is not measured. */
 void measure(const char *subject, const char *workload, const struct state *start, const struct contender *contenders,
              size_t count, size_t times);
 

@@ -10,6 +10,7 @@ $made/time-agree 1000000
 rm -f $made/times.*
 run=1
 while [ $run -le "${RUNS:-5}" ]; do
+    echo "bench: run $run of ${RUNS:-5}" >&2
     for program in collecting allocating growth trees; do
         $made/time-$program "${ROUNDS:-21}"
     done >$made/times.$run

@@ -196,12 +196,13 @@ def panel(top, title, names, counted, timed, bars, highest=1.75):
     for tick in 0, 0.5, 1, 1.5:
         said += [line(left, up(tick), left + width, up(tick), GRID), text(left - 8, up(tick) + 4, "%g" % tick, 11, "end")]
     step = width / len(names)
-    column = min(26, step * 0.38)
+    column = min(26, step * 0.44)
     for i, name in enumerate(names):
         middle = left + step * (i + 0.5)
         for value, colour, x in (counted[i], INSTRUCTIONS, middle - column), (timed[i], TIME, middle):
             said.append('<rect x="%.1f" y="%.1f" width="%.1f" height="%.1f" fill="%s"/>' % (x, up(value), column - 1, base - up(value), colour))
-            said.append(text(x + column / 2, up(value) - 3, "%.2f" % value, 10))
+            inside = value > 0.3
+            said.append(text(x + column / 2, base - (6 if inside else 3), "%.2f" % value, 9, "middle", "white" if inside else INK))
         said.append(text(middle, base + 15, name, 11))
     for bar, colour in zip(bars, (INSTRUCTIONS, TIME)):
         said.append(line(left, up(bar), left + width, up(bar), colour, 'stroke-dasharray="5 4" stroke-width="1.5"'))

@@ -1,5 +1,5 @@
-/* Binary trees, built and dropped beside a live one, and one full collection: the archive, the baselines, malloc and, where
-   it is installed, Boehm's libgc. These are unlike things: docs/PERFORMANCE.md says how. */
+/* Binary trees, built and dropped beside a live one, and one full collection: the archive, the baselines, malloc and,
+   where it is installed, Boehm's libgc. These are unlike things: docs/PERFORMANCE.md says how. */
 #include <stdio.h>
 #include <stdlib.h>
 

@@ -92,7 +92,7 @@ static void graph(struct state *s) {
   for (i = 0; i < 64; i++) s->roots[i] = some_object();
 }
 
-/* Gives the first two fields of the i-th of n objects its children in a heap-shaped tree, and the others any of them. */
+/* The first two fields of the i-th of n objects become its children in a binary tree, the others any of them. */
 static void join(struct state *s, const uint32_t *kept, uint32_t n, uint32_t i) {
   uint32_t k;
   for (k = 1; k <= 2; k++) s->heap[kept[i] + k] = 2 * i + k < n ? 4 * kept[2 * i + k] : 0;

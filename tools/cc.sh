@@ -82,7 +82,7 @@ compile_by_kit_for_here() {
 compile_each() {
     compiler=$1 out=$2
     shift 2
-    flags= sources= archives= objects=
+    flags='' sources='' archives='' objects=''
     for word in "$@"; do
         case $word in
         *.c) sources="$sources $word" ;;
