@@ -5,8 +5,8 @@
   table.py --join SAID LOG                     a program's tags and the emulator's counts as lines of COUNTS
   table.py --compare STORED COUNTS             which counts differ; the exit status is 1 if any does
 
-A line of COUNTS: subject, workload, contender, instructions of one call. A ratio of times is taken inside a round; a run's
-ratio is the median of its rounds, and what is shown is the middle of the runs.
+A line of COUNTS: subject, workload, contender, instructions of one call. A ratio of times is taken inside a round; a
+run's ratio is the median of its rounds, and what is shown is the middle of the runs.
 """
 import statistics
 import sys
@@ -88,7 +88,8 @@ def row(name, cells, bar):
     print("%-27s%s   %s" % (name, "".join(cells), "" if bar is None else "bar %.2f" % bar))
 
 
-def collecting(m, ratio, which):
+def collecting(ratio, which):
+    """The table of instructions (which = 0) or of time (1)."""
     print("%-27s%s" % ("", "".join("%7s " % w for w in WORKLOADS)))
     for name, of, to, *bars, workloads, others in RATIOS:
         cells = []
@@ -103,12 +104,16 @@ def collecting(m, ratio, which):
 def allocating(m):
     fields = workloads_of(m.counts, "allocating")
     print("allocate / (c), by fields " + "".join("%7s " % n for n in fields))
-    row("  instructions", [cell(m.count_ratio("allocating", n, "archive", "baseline"), ALLOCATE[0]) for n in fields], ALLOCATE[0])
-    if m.runs:
-        row("  time", [cell(m.time_ratio("allocating", n, "archive", "baseline"), ALLOCATE[1]) for n in fields], ALLOCATE[1])
+    shown = [("  instructions", m.count_ratio, ALLOCATE[0])]
+    shown += [("  time", m.time_ratio, ALLOCATE[1])] if m.runs else []
+    for name, ratio, bar in shown:
+        row(name, [cell(ratio("allocating", n, "archive", "baseline"), bar) for n in fields], bar)
+    objects = {n: 65536 // (int(n) + 1) for n in fields}
     for contender in "baseline", "archive":
-        each = [m.counts["allocating", n, contender] / (65536 // (int(n) + 1)) for n in fields]
+        each = [m.counts["allocating", n, contender] / objects[n] for n in fields]
         row("  instructions, " + contender, ["%7.1f " % x for x in each], None)
+        each = [m.time("allocating", n, contender) / objects[n] for n in fields] if m.runs else []
+        row("  ns, " + contender, ["%7.1f " % x for x in each], None)
     print()
 
 
@@ -133,7 +138,8 @@ def growth(m):
         each = [m.counts["growth", "1048576/%d" % n, c] for n in by_live]
         slope = (each[-1] - each[0]) / by_live[-1]
         off = max(abs(y - each[0] - slope * n) for n, y in zip(by_live, each)) / each[-1]
-        print("  %-8s %s   %.2f a live word, off by %.4f %%" % (c, " ".join("%7.2f" % (y / 1e6) for y in each), slope, 100 * off))
+        millions = " ".join("%7.2f" % (y / 1e6) for y in each)
+        print("  %-8s %s   %.2f a live word, off by %.4f %%" % (c, millions, slope, 100 * off))
     print()
 
 
@@ -154,19 +160,21 @@ def peers(m):
 
 def tables(m):
     print("Instructions, as ratios; '!' is above the bar.")
-    collecting(m, m.count_ratio, 0)
+    collecting(m.count_ratio, 0)
     words = m.counts["collecting", "empty", "check"] / 2097153
     print("check of an empty heap: %.2f instructions a word read, bar 1.40%s\n" % (words, "!" if words > 1.4 else ""))
     if m.runs:
-        print("Time, as ratios: the middle of %d runs of %d rounds." % (len(m.runs), len(next(iter(m.runs[0].values())))))
-        collecting(m, m.time_ratio, 1)
+        rounds = len(next(iter(m.runs[0].values())))
+        print("Time, as ratios: the middle of %d runs of %d rounds." % (len(m.runs), rounds))
+        collecting(m.time_ratio, 1)
         print("Between the lowest and the highest run:")
         for name, of, to, *_ in RATIOS:
             each = [m.time_ratios("collecting", w, of, to) for w in WORKLOADS]
             print("%-27s%s" % (name, " ".join("%.2f-%.2f" % (r[0], r[-1]) for r in each)))
         print("Microseconds of one call:")
         for c in dict.fromkeys(c for s, _, c in m.runs[0] if s == "collecting"):
-            print("%-27s%s" % (c, "".join("%7.*f " % (3 if w == "small" else 0, m.time("collecting", w, c) / 1e3) for w in WORKLOADS)))
+            each = [(3 if w == "small" else 0, m.time("collecting", w, c) / 1e3) for w in WORKLOADS]
+            print("%-27s%s" % (c, "".join("%7.*f " % pair for pair in each)))
         print()
     allocating(m)
     growth(m)
@@ -180,7 +188,12 @@ INSTRUCTIONS, TIME, INK, GRID = "#2b6cb0", "#dd8a2e", "#222222", "#d0d0d0"
 
 
 def text(x, y, words, size=11, anchor="middle", fill=INK):
-    return '<text x="%.1f" y="%.1f" font-size="%d" text-anchor="%s" fill="%s">%s</text>' % (x, y, size, anchor, fill, words)
+    where = 'x="%.1f" y="%.1f" font-size="%d" text-anchor="%s" fill="%s"' % (x, y, size, anchor, fill)
+    return "<text %s>%s</text>" % (where, words)
+
+
+def column(x, top, base, width, colour):
+    return '<rect x="%.1f" y="%.1f" width="%.1f" height="%.1f" fill="%s"/>' % (x, top, width, base - top, colour)
 
 
 def line(x1, y1, x2, y2, colour, more=""):
@@ -194,18 +207,21 @@ def panel(top, title, names, counted, timed, bars, highest=1.75):
     up = lambda v: base - min(v, highest) / highest * height
     said = [text(left, top + 14, title, 14, "start")]
     for tick in 0, 0.5, 1, 1.5:
-        said += [line(left, up(tick), left + width, up(tick), GRID), text(left - 8, up(tick) + 4, "%g" % tick, 11, "end")]
+        said.append(line(left, up(tick), left + width, up(tick), GRID))
+        said.append(text(left - 8, up(tick) + 4, "%g" % tick, 11, "end"))
     step = width / len(names)
-    column = min(26, step * 0.44)
+    wide = min(26, step * 0.44)
     for i, name in enumerate(names):
         middle = left + step * (i + 0.5)
-        for value, colour, x in (counted[i], INSTRUCTIONS, middle - column), (timed[i], TIME, middle):
-            said.append('<rect x="%.1f" y="%.1f" width="%.1f" height="%.1f" fill="%s"/>' % (x, up(value), column - 1, base - up(value), colour))
+        for value, colour, x in (counted[i], INSTRUCTIONS, middle - wide), (timed[i], TIME, middle):
+            said.append(column(x, up(value), base, wide - 1, colour))
             inside = value > 0.3
-            said.append(text(x + column / 2, base - (6 if inside else 3), "%.2f" % value, 9, "middle", "white" if inside else INK))
+            ink = "white" if inside else INK
+            said.append(text(x + wide / 2, base - (6 if inside else 3), "%.2f" % value, 9, "middle", ink))
         said.append(text(middle, base + 15, name, 11))
     for bar, colour in zip(bars, (INSTRUCTIONS, TIME)):
-        said.append(line(left, up(bar), left + width, up(bar), colour, 'stroke-dasharray="5 4" stroke-width="1.5"'))
+        dashed = 'stroke-dasharray="5 4" stroke-width="1.5"'
+        said.append(line(left, up(bar), left + width, up(bar), colour, dashed))
     said.append(line(left, up(1), left + width, up(1), INK))
     return said
 
@@ -215,17 +231,24 @@ def growth_panel(top, m):
     base = top + 30 + height
     _, by_live = growing(m)
     highest = max(m.counts["growth", "1048576/%d" % n, "full"] for n in by_live)
-    said = [text(left, top + 14, "Millions of instructions of one collection, by live words; S = 1,048,576", 14, "start")]
+    title = "Millions of instructions of one collection, by live words; S = 1,048,576"
+    across = lambda n: left + (width - 70) * n / 1048576
+    said = [text(left, top + 14, title, 14, "start")]
     for tick in 0, 10, 20, 30, 40:
         y = base - tick * 1e6 / highest * height
         said += [line(left, y, left + width, y, GRID), text(left - 8, y + 4, tick, 11, "end")]
-    for c, name, colour in ("bare", "(a)", "#888888"), ("engine", "engine", "#2f855a"), ("full", "(b)", TIME), ("collect", "collect", INSTRUCTIONS):
-        points = [(left + (width - 70) * n / 1048576, base - m.counts["growth", "1048576/%d" % n, c] / highest * height) for n in by_live]
-        said.append('<polyline fill="none" stroke="%s" stroke-width="2" points="%s"/>' % (colour, " ".join("%.1f,%.1f" % p for p in points)))
-        shift = {"bare": -2, "engine": 11, "full": 2, "collect": 8}[c]
+    for c, name, colour, shift in (
+        ("bare", "(a)", "#888888", -2),
+        ("engine", "engine", "#2f855a", 11),
+        ("full", "(b)", TIME, 2),
+        ("collect", "collect", INSTRUCTIONS, 8),
+    ):
+        share = [m.counts["growth", "1048576/%d" % n, c] / highest for n in by_live]
+        points = [(across(n), base - y * height) for n, y in zip(by_live, share)]
+        joined = " ".join("%.1f,%.1f" % p for p in points)
+        said.append('<polyline fill="none" stroke="%s" stroke-width="2" points="%s"/>' % (colour, joined))
         said.append(text(points[-1][0] + 8, points[-1][1] + shift, name, 11, "start", colour))
-    for n in by_live:
-        said.append(text(left + (width - 70) * n / 1048576, base + 15, "{:,}".format(n), 11))
+    said += [text(across(n), base + 15, "{:,}".format(n)) for n in by_live]
     return said
 
 
@@ -248,12 +271,11 @@ def picture(m):
     said += growth_panel(top, m)
     head = [text(60, 28, "The archive beside C: ratios, less is better; dashed lines are the bars", 16, "start")]
     for x, colour, name in (700, INSTRUCTIONS, "instructions"), (810, TIME, "time"):
-        head += ['<rect x="%d" y="18" width="12" height="12" fill="%s"/>' % (x, colour), text(x + 18, 28, name, 12, "start")]
+        head += [column(x, 18, 30, 12, colour), text(x + 18, 28, name, 12, "start")]
     size = 'width="960" height="%d" viewBox="0 0 960 %d"' % (top + 215, top + 215)
-    return '<svg xmlns="http://www.w3.org/2000/svg" %s font-family="sans-serif">\n<rect width="100%%" height="100%%" fill="white"/>\n%s\n</svg>\n' % (
-        size,
-        "\n".join(head + said),
-    )
+    lines = ['<svg xmlns="http://www.w3.org/2000/svg" %s font-family="sans-serif">' % size]
+    lines += ['<rect width="100%" height="100%" fill="white"/>', *head, *said, "</svg>", ""]
+    return "\n".join(lines)
 
 
 # ---- counts ----
