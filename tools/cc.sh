@@ -6,6 +6,15 @@
 #   tools/cc.sh pace                'native', or 'emulated' where programs run some ten times slower
 # On x86-64 that is the system's cc. On Arm clang makes x86-64 objects, the kit's linker joins them with the kit's C
 # library, and the kit's emulator runs them.
+#
+# For bench/, so that the same instructions run on every machine: the kit's clang, which compiles Rattle too, its linker
+# and its C library.
+#   tools/cc.sh kit-clang WORDS..          runs that clang; kit-ar WORDS.. its archiver
+#   tools/cc.sh kit-build OUT WORDS..      as build; object files may be among WORDS
+#   tools/cc.sh kit-count LOG OUT WORDS..  the same in Debian's emulator, which writes to LOG what its plugin
+#                                          bench/icount.c counts
+#   tools/cc.sh has FILE PACKAGE           whether a file is there, once its Debian package may have been installed
+#   tools/cc.sh own-build OUT WORDS..      as kit-build, but for this machine's processor and with its C library
 set -u
 
 die() {
@@ -16,12 +25,16 @@ die() {
 there() { [ -e "$1" ] || command -v "$1" >/dev/null 2>&1; }
 
 # The command or file $1; if it is missing, the Debian package $2 is installed by name where that can be done.
-need() {
+has() {
     there "$1" && return
     if [ "$(id -u)" = 0 ] && there apt-get; then
         apt-get install -y "$2" >/dev/null 2>&1 || true
     fi
-    there "$1" || die "'$1' is missing: install the Debian package '$2' (as root: apt-get install $2)"
+    there "$1"
+}
+
+need() {
+    has "$1" "$2" || die "'$1' is missing: install the Debian package '$2' (as root: apt-get install $2)"
 }
 
 find_kit() {
@@ -32,7 +45,7 @@ find_kit() {
     fi
     tools=$kit/on/$machine/toolchain
     lib=$tools/lib
-    [ -x "$tools/bin/qemu-x86_64" ] || die "no emulator in $tools/bin: is this the kit for $machine?"
+    [ -x "$tools/bin/ld.lld" ] || die "no linker in $tools/bin: is this the kit for $machine?"
 }
 
 compile_native() {
@@ -48,41 +61,82 @@ compile_for_x86() {
     clang -target x86_64-linux-gnu -fPIE -idirafter "/usr/include/$machine-linux-gnu" "$@"
 }
 
-# One object for each .c file among the words, then the linker.
-build_for_x86() {
-    out=$1
-    shift
+# The kit's clang has no headers of its own: those of the machine's compiler are the same in what is used here.
+kit_clang() {
+    need cc gcc
+    need /usr/include/stdio.h libc6-dev
     find_kit
-    flags= sources= archives=
+    "$tools/bin/clang" "$@"
+}
+
+compile_by_kit() {
+    kit_clang --target=x86_64-unknown-linux-gnu -march=x86-64 -fPIE -idirafter "$(cc -print-file-name=include)" \
+        -idirafter "/usr/include/$machine-linux-gnu" "$@"
+}
+
+compile_by_kit_for_here() {
+    kit_clang "--target=$machine-unknown-linux-gnu" -fPIE -idirafter "$(cc -print-file-name=include)" "$@"
+}
+
+# One object for each .c file among the words, by the compiler $1, in the folder $2.objects.
+compile_each() {
+    compiler=$1 out=$2
+    shift 2
+    flags='' sources='' archives='' objects=''
     for word in "$@"; do
         case $word in
         *.c) sources="$sources $word" ;;
-        *.a) archives="$archives $word" ;;
+        *.a | -l*) archives="$archives $word" ;;
+        *.o) objects="$objects $word" ;;
         *) flags="$flags $word" ;;
         esac
     done
     mkdir -p "$out.objects"
-    objects=
     for source in $sources; do
         object=$out.objects/$(basename "$source" .c).o
         # shellcheck disable=SC2086
-        compile_for_x86 $flags -c "$source" -o "$object" || exit 1
+        $compiler $flags -c "$source" -o "$object" || exit 1
         objects="$objects $object"
     done
+}
+
+# Those objects, and the kit's linker and C library.
+build_for_x86() {
+    find_kit
+    compile_each "$@"
     # shellcheck disable=SC2086
     "$tools/bin/ld.lld" -pie --dynamic-linker "$lib/ld-linux-x86-64.so.2" -o "$out" "$lib/Scrt1.o" "$lib/crti.o" \
         "$lib/crtbeginS.o" $objects $archives "$lib/libc.so.6" "$lib/libc_nonshared.a" "$lib/libgcc.a" \
         "$lib/crtendS.o" "$lib/crtn.o"
 }
 
+# Those objects, and the machine's linker and C library.
+build_for_here() {
+    compile_each compile_by_kit_for_here "$@"
+    # shellcheck disable=SC2086
+    cc -o "$out" $objects $archives
+}
+
+
+# -cpu Nehalem: the C library then clears words by plain stores, which the emulator counts as a processor would run them.
+count_by_plugin() {
+    need qemu-x86_64 qemu-user
+    find_kit
+    log=$1 plugin=$1.plugin.so
+    shift
+    compile_native -O2 -fPIC -shared bench/icount.c -o "$plugin" || exit 1
+    qemu-x86_64 -cpu Nehalem -d plugin -D "$log" -plugin "$plugin" -E LD_LIBRARY_PATH="$lib" "$@"
+}
+
 run_emulated() {
     find_kit
+    [ -x "$tools/bin/qemu-x86_64" ] || die "no emulator in $tools/bin: is this the kit for $machine?"
     exec "$tools/bin/qemu-x86_64" -E LD_LIBRARY_PATH="$lib" "$@"
 }
 
 machine=$(uname -m)
 [ "$(uname -s)" = Linux ] || die "only Linux is known here"
-[ $# -ge 1 ] || die "usage: tools/cc.sh build|compile|run|pace .."
+[ $# -ge 1 ] || die "usage: tools/cc.sh build|compile|run|pace|kit-..|own-build .."
 what=$1
 shift
 case $machine-$what in
@@ -90,9 +144,15 @@ x86_64-build) out=$1 && shift && compile_native "$@" -o "$out" ;;
 x86_64-compile) compile_native "$@" ;;
 x86_64-run) exec "$@" ;;
 x86_64-pace) echo native ;;
-aarch64-build) build_for_x86 "$@" ;;
+aarch64-build) build_for_x86 compile_for_x86 "$@" ;;
 aarch64-compile) compile_for_x86 "$@" ;;
 aarch64-run) run_emulated "$@" ;;
 aarch64-pace) echo emulated ;;
+*-has) has "$@" ;;
+*-kit-clang) kit_clang "$@" ;;
+*-kit-ar) find_kit && "$tools/bin/llvm-ar" "$@" ;;
+*-kit-build) build_for_x86 compile_by_kit "$@" ;;
+*-kit-count) count_by_plugin "$@" ;;
+*-own-build) build_for_here "$@" ;;
 *) die "no way is known to do '$what' on $machine" ;;
 esac

@@ -1,29 +1,32 @@
 -- Allocate by what its tests come to: refused, placed at once, or tried again after a collection. Assumes nothing.
-use Prim.Native.Nat.{ℕ, _+_, _≤_, _<_}
+use Prim.Native.Nat.{ℕ, _+_, _-_, _/_, _≤_, _<_}
 use native.Mathlib.Numerals.{add-one}
 use native.Mathlib.Omega.{arith}
-use mathlib.Core.Path.{_≡_, ap, _∙_}
-use mathlib.Core.Bool.{true, false}
+use mathlib.Core.Path.{_≡_, refl, ap, _∙_}
+use mathlib.Core.Bool.{Bool, true, false, cond}
+use lib.Dec.{ltb, leb}
 use mathlib.Core.List.{List}
 use lib.ListN.{length, set}
-use borrow.Author.Tests.{lt-ltb, le-ltb, le-leb, lt-leb}
+use borrow.Author.Tests.{lt-ltb, le-ltb, le-leb, lt-leb, ltb-true, ltb-false, leb-false}
 use Rattle.model.specs.declared.Kind.{Kind}
 use Rattle.model.specs.declared.Refusal.the-variants as Why
 use Rattle.model.specs.declared.Answer.the-variants as Says
-use Rattle.model.specs.Limits.{maxFields}
-use Rattle.model.specs.Words.{State, lent, free}
+use Rattle.model.specs.declared.Record.{Record}
+use Rattle.model.specs.Limits.{maxRoots, maxFields}
+use Rattle.model.specs.Words.{State, lent, firstOf, free}
 use Rattle.model.specs.Headers.{Layout}
-use Rattle.model.specs.Shape.{badShape}
+use Rattle.model.specs.Shape.{badLength, badShapeOf, badShape}
 use Rattle.model.specs.Objects.{address}
 use Rattle.model.specs.Soundness.{sound}
 use Rattle.model.specs.Collection.{collected}
 use Rattle.model.specs.Answers.{says, refuse}
 use Rattle.model.specs.Changes.{spare, placed}
 use Rattle.model.specs.Calls as Calls
-use Rattle.model.proofs.Shape.{Shaped, first-in}
+use Rattle.model.proofs.Tests.{never, or-none}
+use Rattle.model.proofs.Shape.{Shaped, shaped, good-length, first-in}
 use Rattle.runs.specs.Runs.{cleared}
 use Rattle.runs.proofs.RunLaws.{cleared-sets}
-use Rattle.allocator.specs.Placing.{MayPlace, MaySpare, spareOf, retried}
+use Rattle.allocator.specs.Placing.{MayPlace, MaySpare, spareOf, atOnce, retried}
 
 -- ---- a new object
 
@@ -89,3 +92,40 @@ module _ (Y : Layout) (k : Kind) (n r : ℕ) (s : State) where
     pub retried-done : n < m → (s″ : State) → s″ ≡ placed Y k n r s′ → says Says.Done s″ ≡ retried Y k n r s
     unfolding retried refuse
     retried-done f s″ u = rw (e, u, l, le-leb (n + 1) (spare (collected Y s)) (omega (arith, spare-is)))
+
+-- ---- at once
+
+-- of the numbers alone
+pub numbers-spare : (words roots : ℕ) (q : Record) → badShapeOf words roots q ≡ false → MaySpare words q
+unfolding badShapeOf
+numbers-spare words roots q h =
+    let S = (words - 1) / 2 in
+    let a = or-none _ (ltb (firstOf S (q .half) + S) (q .free .0)) h in
+    let b = or-none _ (ltb (q .free .0) (firstOf S (q .half))) (a .0) in
+    let c = or-none (badLength words) (ltb maxRoots roots) (b .0) in
+    let g = good-length words (c .0) in
+    record { some = omega (arith, g .odd); few = omega (arith, g .odd, g .most); high = ltb-false _ _ (a .1) }
+
+-- a test that must fail before another holds
+not-then : (a b : Bool) → cond a false b ≡ true → (a ≡ false) × (b ≡ true)
+not-then true b h = never h refl
+not-then false b h = (refl, h)
+
+module _ (Y : Layout) (k : Kind) (n r : ℕ) (s : State) (e : atOnce (length (s .heap)) (length (s .roots)) (s .«record») n r ≡ true) where
+  pub at-once-shaped : badShape s ≡ false
+  at-once-shaped = not-then (badShape s) _ e .0
+
+  root : r < length (s .roots)
+  root = leb-false (length (s .roots)) r (not-then (leb (length (s .roots)) r) _ (not-then (badShape s) _ e .1) .0)
+
+  room : n < spareOf (length (s .heap)) (s .«record»)
+  room = ltb-true n _ (not-then (leb (length (s .roots)) r) _ (not-then (badShape s) _ e .1) .1)
+
+  count : n ≤ maxFields
+  count = let h = shaped s at-once-shaped in omega (arith, h .small, h .low, room)
+
+  pub at-once-place : MayPlace s n r
+  at-once-place = may-place s n r (shaped s at-once-shaped) root count room
+
+  pub at-once-done : Calls.allocate Y k n r s ≡ says Says.Done (placed Y k n r s)
+  at-once-done = allocate-now Y k n r s at-once-shaped root count room

@@ -1,12 +1,14 @@
 -- What placing an object asks of the numbers, and what is left to do of an allocation once its object does not fit.
 use Prim.Native.Nat.{ℕ, _+_, _-_, _/_, _≤_, _<_}
-use mathlib.Core.Bool.{not}
+use mathlib.Core.Bool.{Bool, false, not, cond}
+use lib.Dec.{ltb, leb}
 use lib.ListN.{length}
 use Rattle.model.specs.declared.Kind.{Kind}
 use Rattle.model.specs.declared.Record.{Record}
 use Rattle.model.specs.declared.Refusal.the-variants as Why
 use Rattle.model.specs.declared.Answer.the-variants as Says
 use Rattle.model.specs.Limits.{maxWords, maxFields}
+use Rattle.model.specs.Shape.{badShapeOf}
 use Rattle.model.specs.Words.{State, firstOf, free}
 use Rattle.model.specs.Headers.{Layout}
 use Rattle.model.specs.Soundness.{sound}
@@ -29,6 +31,10 @@ pub record MaySpare (words : ℕ) (q : Record) : Type 0 where
   pub some : 1 ≤ words
   pub few : words ≤ maxWords
   pub high : q .free .0 ≤ firstOf ((words - 1) / 2) (q .half) + (words - 1) / 2
+
+-- nothing refuses an allocation, and its words are free: SHAPE, ROOT, and n + 1 words; COUNT is far above what fits
+abbrev pub atOnce : ℕ → ℕ → Record → ℕ → ℕ → Bool
+atOnce words roots q n r = cond (badShapeOf words roots q) false (cond (leb roots r) false (ltb n (spareOf words q)))
 
 -- the collection, and another try
 unfoldable pub retried : Layout → Kind → ℕ → ℕ → State → Outcome

@@ -9,6 +9,7 @@ ghost use Rattle.model.specs.Answers.{outcome};
 ghost use Rattle.model.specs.Calls as Calls;
 ghost use Rattle.allocator.specs.Placing.{retried};
 
+pub mod at_once;
 mod placing;
 
 use model::Answer;

@@ -1,6 +1,7 @@
 // What C gives and gets, and the steps between that and the library's types. No enum crosses to C, so that each half,
 // kind and refusal is a number there.
 ghost use mathlib.Core.Path.{_≡_};
+ghost use Rattle.model.specs.declared.Answer.the-variants as Says;
 ghost use Rattle.model.specs.Answers.{told};
 ghost use Rattle.crossing.specs.Numbers as Numbers;
 ghost use Rattle.crossing.specs.Crossing.{taken, back, freshBack, Narrow, NarrowPlace};
@@ -113,6 +114,18 @@ pub fn result(came: CRecord, done: Answered) -> CResult
         refusal: told.refusal,
         value: told.value,
         record,
+    }
+}
+
+// Of a call that is done and names no answer.
+pub fn done_with(record: Record) -> CResult
+    requires { ⌜ Narrow («record» .free .0) ⌝ }
+    ensures { λ r. ⌜ r ≡ Numbers.result (told Says.Done) (Numbers.numbersOf «record») ⌝ }
+{
+    CResult {
+        refusal: 0,
+        value: 0,
+        record: numbers_of(record),
     }
 }
 

@@ -10,6 +10,7 @@ use crossing::CCollected;
 use crossing::CRecord;
 use crossing::CResult;
 use crossing::collected;
+use crossing::done_with;
 use crossing::fresh_result;
 use crossing::record_of;
 use crossing::result;
@@ -47,7 +48,8 @@ pub extern "C" fn phachunoi_collect(
     collected(record, done)
 }
 
-// Root `to` gets a new object of values, all null; or SHAPE, ROOT, COUNT, DAMAGED or ROOM. Every object may move.
+// Root `to` gets a new object of values, all null; or SHAPE, ROOT, COUNT, DAMAGED or ROOM. Every object may move. Where the
+// object fits, that is found and done here, with no answer in memory.
 #[no_mangle]
 pub extern "C" fn phachunoi_allocate_traced(
     heap: &mut [u32],
@@ -58,6 +60,10 @@ pub extern "C" fn phachunoi_allocate_traced(
 ) -> CResult
     ensures { λ r. ⌜ given r (now (heap .exit)) (now (roots .exit)) ≡ called Numbers.result (Calls.allocate Layouts.tuple Traced fields to) (now (heap .entry)) (now (roots .entry)) «record» ⌝ }
 {
+    let now = record_of(record);
+    if allocator::at_once::fits(heap.len(), roots.len(), now, fields, to) {
+        return done_with(allocator::at_once::allocate(heap, roots, now, Kind::Traced, fields, to));
+    }
     let done = allocator::allocate(heap, roots, record_of(record), Kind::Traced, fields, to);
     result(record, done)
 }
@@ -73,6 +79,17 @@ pub extern "C" fn phachunoi_allocate_untraced(
 ) -> CResult
     ensures { λ r. ⌜ given r (now (heap .exit)) (now (roots .exit)) ≡ called Numbers.result (Calls.allocate Layouts.tuple Untraced fields to) (now (heap .entry)) (now (roots .entry)) «record» ⌝ }
 {
+    let now = record_of(record);
+    if allocator::at_once::fits(heap.len(), roots.len(), now, fields, to) {
+        return done_with(allocator::at_once::allocate(
+            heap,
+            roots,
+            now,
+            Kind::Untraced,
+            fields,
+            to,
+        ));
+    }
     let done = allocator::allocate(heap, roots, record_of(record), Kind::Untraced, fields, to);
     result(record, done)
 }

@@ -118,7 +118,7 @@ pub fn all_zero(heap: &[u32], from: usize, n: usize) -> bool
 {
     let mut at = from;
     let mut left = n;
-    while 64 < left {
+    while 64 <= left {
         if bits(heap, at, 64) != 0 {
             return false;
         }

@@ -33,9 +33,6 @@ returns c =
 add-at : tie.Need-add-at Inv-loop μ-loop
 add-at c = omega arith
 
-sub-left : tie.Need-sub-left Inv-loop μ-loop
-sub-left c = omega arith
-
 loop-less : tie.Need-loop-less Inv-loop μ-loop
 loop-less c = omega arith
 
@@ -60,7 +57,6 @@ all-zero-spec =
     bits-requires
     returns
     add-at
-    sub-left
     loop-less
     loop-again
     bits-requires-2

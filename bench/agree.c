@@ -1,0 +1,84 @@
+/* Every contender against the model of tests/c on small heaps at random, sound and damaged: the same verdict, the same
+   words, roots and record; and a check leaves all as it was. */
+#include <stdio.h>
+#include <stdlib.h>
+#include <string.h>
+
+#include "../tests/c/heaps.h"
+#include "../tests/c/random.h"
+#include "baseline.h"
+#include "contenders.h"
+
+#define MOST_WORDS 81
+#define MOST_ROOTS 6
+
+/* A collector's verdict is the refusal. One that takes the heap to be sound gets only sound ones. */
+static uint32_t sound_bare(struct state *s) { return bare_collect(s), 0; }
+static uint32_t sound_bare_used(struct state *s) { return bare_collect_used(s), 0; }
+static uint32_t sound_engine(struct state *s) { return engine_collect(s), 0; }
+
+static const struct {
+  const char *name;
+  uint32_t (*collect)(struct state *s);
+  int only_sound;
+} collectors[] = {{"bare", sound_bare, 1},     {"bare-used", sound_bare_used, 1},     {"engine", sound_engine, 1},
+                  {"full", full_collect, 0},   {"full-words", full_collect_words, 0}, {"collect", archive_collect, 0}};
+
+static const struct {
+  const char *name;
+  int (*check)(struct state *s);
+} checkers[] = {{"full-check", full_check}, {"full-check-words", full_check_words}, {"check", archive_check}};
+
+static unsigned long differences;
+
+static void compare(const struct state *s, const struct state *expected, int verdict, const char *name,
+                    unsigned long heap) {
+  if (verdict && s->half == expected->half && s->free == expected->free &&
+      memcmp(s->heap, expected->heap, MOST_WORDS * sizeof *s->heap) == 0 &&
+      memcmp(s->roots, expected->roots, MOST_ROOTS * sizeof *s->roots) == 0)
+    return;
+  differences++;
+  printf("agree: %s differs from the model on heap %lu\n", name, heap);
+}
+
+/* A copy of a heap in words of its own. */
+static struct state again(const struct state *s, uint32_t *words, uint32_t *roots) {
+  struct state copy = *s;
+  copy.heap = memcpy(words, s->heap, MOST_WORDS * sizeof *words);
+  copy.roots = memcpy(roots, s->roots, MOST_ROOTS * sizeof *roots);
+  return copy;
+}
+
+static void hold(const struct state *start, int sound, unsigned long heap) {
+  static uint32_t words[2][MOST_WORDS], roots[2][MOST_ROOTS];
+  struct call call = {COLLECT, 0, 0, 0, 0, 0, {0, 0, 0}};
+  struct state expected = again(start, words[0], roots[0]), s;
+  uint32_t refusal = model_call(&expected, &call).refusal;
+  size_t i;
+  for (i = 0; i < sizeof collectors / sizeof *collectors; i++) {
+    if (collectors[i].only_sound && !sound) continue;
+    s = again(start, words[1], roots[1]);
+    compare(&s, &expected, collectors[i].collect(&s) == refusal, collectors[i].name, heap);
+  }
+  for (i = 0; i < sizeof checkers / sizeof *checkers; i++) {
+    s = again(start, words[1], roots[1]);
+    compare(&s, start, checkers[i].check(&s) == sound, checkers[i].name, heap);
+  }
+}
+
+int main(int argc, char **argv) {
+  static uint32_t words[MOST_WORDS], roots[MOST_ROOTS];
+  unsigned long heaps = argc > 1 ? strtoul(argv[1], NULL, 10) : 1000000, sound = 0, i;
+  random_seed(2026);
+  for (i = 0; i < heaps && differences < 10; i++) {
+    struct state s = {words, 2 * (size_t)below(40) + 3, roots, below(MOST_ROOTS + 1), 0, 0};
+    int good;
+    sound_heap(&s);
+    if (one_in(2)) damage(&s);
+    good = model_sound(&s);
+    sound += (unsigned long)good;
+    hold(&s, good, i);
+  }
+  printf("agree: %lu heaps, %lu of them sound, %lu differences\n", i, sound, differences);
+  return differences != 0;
+}

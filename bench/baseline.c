@@ -1,0 +1,253 @@
+/* Collectors, checks and an allocation in C, as fast as plain C makes them: no call and no test in a loop that can be
+   left out. In this order: words, (a), the check, (b), (c). */
+#include "baseline.h"
+
+#include <string.h>
+
+#define RARELY(x) __builtin_expect(!!(x), 0)
+
+enum { SHAPE = 1, ROOT = 2, COUNT = 3, DAMAGED = 8, ROOM = 9 };
+
+/* ---- words ---- */
+
+static inline uint32_t *at_address(uint32_t *heap, uint32_t address) { return (uint32_t *)((char *)heap + address); }
+
+static inline uint32_t address_of(const uint32_t *heap, const uint32_t *word) {
+  return (uint32_t)((const char *)word - (const char *)heap);
+}
+
+static inline uint32_t count_of(uint32_t header) { return (header & 0x7fffffffu) >> 1; }
+
+static inline int is_address(uint32_t word) { return (word & 1) == 0 && word != 0; }
+
+static inline uint32_t half_size(const struct state *s) { return (uint32_t)(s->words - 1) / 2; }
+
+static inline uint32_t first_word(const struct state *s, uint32_t half) { return half ? half_size(s) + 1 : 1; }
+
+/* ---- (a) the copying ---- */
+
+/* Up to four words straight, up to twelve by a plain loop, more by the C library. */
+static inline uint32_t *copy_words(uint32_t *to, const uint32_t *from, uint32_t n) {
+  uint32_t *end = to + n;
+  if (n > 4) {
+    if (n > 12) {
+      memcpy(to, from, n * sizeof *to);
+      return end;
+    }
+#pragma clang loop vectorize(disable) unroll(disable)
+    while (to < end) *to++ = *from++;
+    return end;
+  }
+  if (n == 0) return end;
+  to[0] = from[0];
+  if (n == 1) return end;
+  to[1] = from[1];
+  if (n == 2) return end;
+  to[2] = from[2];
+  if (n == 3) return end;
+  to[3] = from[3];
+  return end;
+}
+
+/* The new address of the object at an address; it is copied to the free words when it is met first. */
+static inline uint32_t forward(uint32_t *heap, uint32_t address, uint32_t **free) {
+  uint32_t *object = at_address(heap, address), *copy = *free;
+  uint32_t header = *object, to;
+  if (header & 1) return header - 1;
+  to = address_of(heap, copy);
+  *object = to + 1;
+  *copy = header;
+  *free = copy_words(copy + 1, object + 1, count_of(header));
+  return to;
+}
+
+/* Roots, then the copies in their order. Answers the word past the copies. */
+static inline uint32_t *copy_reachable(uint32_t *heap, uint32_t *root, size_t root_count, uint32_t *scan) {
+  uint32_t *free = scan, *end;
+  for (end = root + root_count; root < end; root++)
+    if (is_address(*root)) *root = forward(heap, *root, &free);
+  while (scan < free) {
+    uint32_t header = *scan++;
+    end = scan + count_of(header);
+    if (RARELY(header >> 31)) { /* a jump, not a move that the next load would wait for */
+      scan = end;
+      continue;
+    }
+    for (; scan < end; scan++)
+      if (is_address(*scan)) *scan = forward(heap, *scan, &free);
+  }
+  return free;
+}
+
+/* Copies to the other half and clears `words` words of this one. */
+static inline uint32_t collect_sound(struct state *s, uint32_t words) {
+  uint32_t *heap = s->heap, old = first_word(s, s->half), new = first_word(s, !s->half);
+  uint32_t *end = copy_reachable(heap, s->roots, s->root_count, heap + new);
+  memset(heap + old, 0, words * sizeof *heap);
+  s->half = !s->half;
+  s->free = (uint32_t)(end - heap);
+  return s->free - new;
+}
+
+uint32_t bare_collect(struct state *s) { return collect_sound(s, half_size(s)); }
+
+uint32_t bare_collect_used(struct state *s) { return collect_sound(s, s->free - first_word(s, s->half)); }
+
+/* ---- the check ---- */
+
+static inline int bad_shape(const struct state *s) {
+  uint32_t size = half_size(s);
+  if (s->words % 2 == 0 || s->words - 3 > 2097153 - 3 || s->root_count > 65536 || s->half > 1) return 1;
+  return s->free - (s->half ? size + 1 : 1) > size; /* a free index below the half wraps round */
+}
+
+/* 32 words a turn, one test a turn. */
+static int all_zero(const uint32_t *words, size_t n) {
+  uint32_t bits = 0;
+  size_t i;
+  for (; n >= 32; n -= 32, words += 32) {
+    for (i = 0; i < 32; i++) bits |= words[i];
+    if (bits) return 0;
+  }
+  for (i = 0; i < n; i++) bits |= words[i];
+  return bits == 0;
+}
+
+/* The used part of a half, and where its headers are marked. */
+struct part {
+  uint32_t *first, *marks;
+  uint32_t used, address; /* of the first word */
+};
+
+static inline void set_mark(const struct part *p, uint32_t k, int by_word) {
+  if (by_word) p->marks[k] = 1;
+  else p->marks[k >> 5] |= 1u << (k & 31);
+}
+
+static inline int has_mark(const struct part *p, uint32_t k, int by_word) {
+  return by_word ? p->marks[k] != 0 : (p->marks[k >> 5] >> (k & 31)) & 1;
+}
+
+static inline int is_value(const struct part *p, uint32_t word, int by_word) {
+  uint32_t offset = word - p->address;
+  if (!is_address(word)) return 1;
+  return (offset & 3) == 0 && offset < 4 * p->used && has_mark(p, offset >> 2, by_word);
+}
+
+static inline int are_values(const struct part *p, const uint32_t *word, size_t n, int by_word) {
+  const uint32_t *end;
+  for (end = word + n; word < end; word++)
+    if (RARELY(!is_value(p, *word, by_word))) return 0;
+  return 1;
+}
+
+static inline int mark_headers(const struct part *p, int by_word) {
+  uint32_t k = 0;
+  while (k < p->used) {
+    uint32_t header = p->first[k];
+    if (RARELY(header & 1)) return 0;
+    set_mark(p, k, by_word);
+    k += count_of(header) + 1;
+  }
+  return k == p->used;
+}
+
+static inline int fields_are_values(const struct part *p, int by_word) {
+  const uint32_t *object = p->first, *end = p->first + p->used;
+  while (object < end) {
+    uint32_t header = *object++, n = count_of(header);
+    if (!(header >> 31) && !are_values(p, object, n, by_word)) return 0;
+    object += n;
+  }
+  return 1;
+}
+
+static inline __attribute__((always_inline)) int check_with(struct state *s, int by_word) {
+  uint32_t size = half_size(s), first, sound;
+  struct part p;
+  if (bad_shape(s)) return 0;
+  first = first_word(s, s->half);
+  p.first = s->heap + first;
+  p.marks = s->heap + first_word(s, !s->half);
+  p.used = s->free - first;
+  p.address = 4 * first;
+  if (s->heap[0] || !all_zero(p.marks, size) || !all_zero(s->heap + s->free, size - p.used)) return 0;
+  sound = mark_headers(&p, by_word) && are_values(&p, s->roots, s->root_count, by_word) &&
+          fields_are_values(&p, by_word);
+  memset(p.marks, 0, (by_word ? p.used : (p.used + 31) / 32) * sizeof *p.marks);
+  return sound != 0;
+}
+
+int full_check(struct state *s) { return check_with(s, 0); }
+
+int full_check_words(struct state *s) { return check_with(s, 1); }
+
+/* ---- (b) the collection with all duties ---- */
+
+uint32_t full_collect(struct state *s) {
+  if (bad_shape(s)) return SHAPE;
+  if (!full_check(s)) return DAMAGED;
+  bare_collect_used(s);
+  return 0;
+}
+
+uint32_t full_collect_words(struct state *s) {
+  if (bad_shape(s)) return SHAPE;
+  if (!full_check_words(s)) return DAMAGED;
+  bare_collect_used(s);
+  return 0;
+}
+
+/* ---- (c) allocation ---- */
+
+/* Up to four zeros straight, more by the C library. */
+static inline void clear_words(uint32_t *word, uint32_t n) {
+  if (n > 4) {
+    memset(word, 0, n * sizeof *word);
+    return;
+  }
+  if (n == 0) return;
+  word[0] = 0;
+  if (n == 1) return;
+  word[1] = 0;
+  if (n == 2) return;
+  word[2] = 0;
+  if (n == 3) return;
+  word[3] = 0;
+}
+
+static inline uint32_t place(struct state *s, uint32_t n, size_t to, int untraced) {
+  uint32_t free = s->free, *word = s->heap + free;
+  s->free = free + n + 1;
+  s->roots[to] = 4 * free;
+  word[0] = (uint32_t)untraced << 31 | n << 1;
+  clear_words(word + 1, n);
+  return 0;
+}
+
+static inline int fits(const struct state *s, size_t n) {
+  return n < first_word(s, s->half) + half_size(s) - s->free;
+}
+
+static __attribute__((noinline, cold)) uint32_t collect_and_place(struct state *s, size_t n, size_t to, int untraced,
+                                                                  int bare) {
+  if (bare) bare_collect(s);
+  else if (full_collect(s)) return DAMAGED;
+  return fits(s, n) ? place(s, (uint32_t)n, to, untraced) : ROOM;
+}
+
+static inline uint32_t allocate_with(struct state *s, size_t n, size_t to, int untraced, int bare) {
+  if (RARELY(bad_shape(s))) return SHAPE;
+  if (RARELY(to >= s->root_count)) return ROOT;
+  if (RARELY(n > 1073741823)) return COUNT;
+  if (RARELY(!fits(s, n))) return collect_and_place(s, n, to, untraced, bare);
+  return place(s, (uint32_t)n, to, untraced);
+}
+
+uint32_t full_allocate(struct state *s, size_t n, size_t to, int untraced) {
+  return allocate_with(s, n, to, untraced, 0);
+}
+
+uint32_t bare_allocate(struct state *s, size_t n, size_t to, int untraced) {
+  return allocate_with(s, n, to, untraced, 1);
+}

@@ -1,0 +1,33 @@
+#!/bin/sh
+# Builds the programs of bench/ in target/bench.
+#   bench/build.sh count    for x86-64, with the kit's C library: the same instructions on every machine
+#   bench/build.sh time     for this machine's processor, with its C library
+set -eu
+cd "$(dirname "$0")/.."
+made=target/bench
+words="-std=c99 -O3 -Wall -Wextra -Wpedantic -Werror -Iinclude"
+shared="bench/rounds.c bench/workloads.c bench/contenders.c bench/baseline.c tests/c/random.c"
+model="tests/c/model.c tests/c/heaps.c"
+
+bench/module.sh
+case $1 in
+count)
+    for program in collecting allocating growth; do
+        # shellcheck disable=SC2086
+        tools/cc.sh kit-build $made/count-$program $words bench/$program.c $shared $model $made/engine.o $made/libphachunoi.a
+    done
+    ;;
+time)
+    for program in agree collecting allocating growth; do
+        # shellcheck disable=SC2086
+        tools/cc.sh own-build $made/time-$program $words bench/$program.c $shared $model $made/own/engine.o $made/own/library.o
+    done
+    libgc="-DWITH_LIBGC -lgc"
+    tools/cc.sh has /usr/include/gc.h libgc-dev || {
+        echo "bench: libgc is left out: the Debian package 'libgc-dev' is not installed"
+        libgc=
+    }
+    # shellcheck disable=SC2086
+    tools/cc.sh own-build $made/time-trees $words $libgc bench/trees.c $shared $made/own/engine.o $made/own/library.o
+    ;;
+esac

@@ -1,0 +1,19 @@
+/* Who is measured: the archive's calls, its collector by itself, and the baselines. */
+#ifndef CONTENDERS_H
+#define CONTENDERS_H
+
+#include "rounds.h"
+
+/* The archive's calls: the refusal, and whether the heap is sound. */
+uint32_t archive_collect(struct state *s);
+int archive_check(struct state *s);
+
+/* The archive's collector without its check, of a sound heap: the function engine::collect_sound. Answers the live
+   words. */
+uint32_t engine_collect(struct state *s);
+
+/* First those that collect, of which growth is measured of the first four; then those that check. */
+enum { GROWING = 4, COLLECTORS = 6, CHECKERS = 3 };
+extern const struct contender contenders[COLLECTORS + CHECKERS];
+
+#endif

@@ -1,0 +1,324 @@
+#!/usr/bin/env python3
+"""Tables and a picture of what the programs of bench/ said.
+
+  table.py COUNTS [TIMES..] [--picture FILE]   the tables, of counted instructions and of timed runs
+  table.py --join SAID LOG                     a program's tags and the emulator's counts as lines of COUNTS
+  table.py --compare STORED COUNTS             which counts differ; the exit status is 1 if any does
+
+A line of COUNTS: subject, workload, contender, instructions of one call. A ratio of times is taken inside a round; a
+run's ratio is the median of its rounds, and what is shown is the middle of the runs.
+"""
+import statistics
+import sys
+
+WORKLOADS = "tree list graph garbage blocks small empty nulls".split()
+MOSTLY_LIVE = "tree list graph blocks small nulls".split()
+
+# Name, of, to, bar of instructions, bar of time, workloads that the bars are for, other bars of time.
+RATIOS = [
+    ("collect / (b)", "collect", "full", 1.15, 1.30, WORKLOADS, {}),
+    ("collect / (b), mark words", "collect", "full-words", None, None, WORKLOADS, {}),
+    ("engine / (a)", "engine", "bare", 1.10, 1.10, WORKLOADS, {"tree": 1.25, "small": 1.25}),
+    ("engine / (a), used words", "engine", "bare-used", None, None, WORKLOADS, {}),
+    ("collect / (a)", "collect", "bare", 2.50, 2.50, MOSTLY_LIVE, {}),
+    ("check / C's check", "check", "full-check", 1.15, 1.10, WORKLOADS, {}),
+    ("check / C's, mark words", "check", "full-check-words", None, None, WORKLOADS, {}),
+    ("(b) / (a)", "full", "bare", None, None, WORKLOADS, {}),
+]
+NOT_COUNTED = {"collect / (b)": ("blocks", "empty")}  # no bar of instructions while a mark is a word
+ALLOCATE = (1.30, 1.25)
+
+
+def read_counts(path):
+    counts = {}
+    with open(path) as lines:
+        for line in lines:
+            if not line.startswith("#"):
+                subject, workload, contender, count = line.split()
+                counts[subject, workload, contender] = float(count)
+    return counts
+
+
+def read_times(path):
+    """Nanoseconds of one call, a list of rounds for each measurement."""
+    times = {}
+    with open(path) as lines:
+        for line in lines:
+            if line.startswith("time "):
+                _, subject, workload, contender, calls, taken = line.split()
+                times.setdefault((subject, workload, contender), []).append(float(taken) / int(calls))
+    return times
+
+
+def workloads_of(measured, subject):
+    return list(dict.fromkeys(w for s, w, _ in measured if s == subject))
+
+
+class Measured:
+    """Counts, and the times of some runs."""
+
+    def __init__(self, counts, runs):
+        self.counts, self.runs = counts, runs
+
+    def count_ratio(self, subject, workload, of, to):
+        return self.counts[subject, workload, of] / self.counts[subject, workload, to]
+
+    def time_ratios(self, subject, workload, of, to):
+        """The ratio of each run, rising."""
+        return sorted(
+            statistics.median(x / y for x, y in zip(run[subject, workload, of], run[subject, workload, to]))
+            for run in self.runs
+        )
+
+    def time_ratio(self, subject, workload, of, to):
+        return statistics.median(self.time_ratios(subject, workload, of, to))
+
+    def time(self, subject, workload, contender):
+        return statistics.median(statistics.median(run[subject, workload, contender]) for run in self.runs)
+
+
+# ---- tables ----
+
+
+def cell(value, bar):
+    return "%7.2f%s" % (value, "!" if bar is not None and round(value, 2) > bar else " ")
+
+
+def row(name, cells, bar):
+    print("%-27s%s   %s" % (name, "".join(cells), "" if bar is None else "bar %.2f" % bar))
+
+
+def collecting(ratio, which):
+    """The table of instructions (which = 0) or of time (1)."""
+    print("%-27s%s" % ("", "".join("%7s " % w for w in WORKLOADS)))
+    for name, of, to, *bars, workloads, others in RATIOS:
+        cells = []
+        for w in WORKLOADS:
+            barred = w in workloads and not (which == 0 and w in NOT_COUNTED.get(name, ()))
+            bar = others.get(w, bars[which]) if which == 1 else bars[which]
+            cells.append(cell(ratio("collecting", w, of, to), bar if barred else None))
+        row(name, cells, bars[which])
+    print()
+
+
+def allocating(m):
+    fields = workloads_of(m.counts, "allocating")
+    print("allocate / (c), by fields " + "".join("%7s " % n for n in fields))
+    shown = [("  instructions", m.count_ratio, ALLOCATE[0])]
+    shown += [("  time", m.time_ratio, ALLOCATE[1])] if m.runs else []
+    for name, ratio, bar in shown:
+        row(name, [cell(ratio("allocating", n, "archive", "baseline"), bar) for n in fields], bar)
+    objects = {n: 65536 // (int(n) + 1) for n in fields}
+    for contender in "baseline", "archive":
+        each = [m.counts["allocating", n, contender] / objects[n] for n in fields]
+        row("  instructions, " + contender, ["%7.1f " % x for x in each], None)
+        each = [m.time("allocating", n, contender) / objects[n] for n in fields] if m.runs else []
+        row("  ns, " + contender, ["%7.1f " % x for x in each], None)
+    print()
+
+
+def growing(m):
+    """By the half, and by the live words of the largest half, as pairs of a size and the instructions."""
+    points = [tuple(map(int, w.split("/"))) for w in workloads_of(m.counts, "growth")]
+    by_half = sorted(s for s, live in points if 2 * live == s)
+    by_live = sorted(live for s, live in points if s == 1048576)
+    return by_half, by_live
+
+
+def growth(m):
+    by_half, by_live = growing(m)
+    print("growth: instructions a word of S, half of it live, S from %d to %d" % (by_half[0], by_half[-1]))
+    for c in "bare", "full", "engine", "collect":
+        each = [m.counts["growth", "%d/%d" % (s, s // 2), c] / s for s in by_half]
+        spread = (max(each) / min(each) - 1) * 100
+        missed = "!" if c == "collect" and round(spread, 1) > 2 else " "
+        print("  %-8s %s   spread %.1f %%%s" % (c, " ".join("%7.3f" % x for x in each), spread, missed))
+    print("growth: millions of instructions by live words of S = 1048576, and what they are off a straight line")
+    for c in "bare", "full", "engine", "collect":
+        each = [m.counts["growth", "1048576/%d" % n, c] for n in by_live]
+        slope = (each[-1] - each[0]) / by_live[-1]
+        off = max(abs(y - each[0] - slope * n) for n, y in zip(by_live, each)) / each[-1]
+        millions = " ".join("%7.2f" % (y / 1e6) for y in each)
+        print("  %-8s %s   %.2f a live word, off by %.4f %%" % (c, millions, slope, 100 * off))
+    print()
+
+
+def peers(m):
+    for subject, workload, unit, divide in (
+        ("full-collection", "tree", "ms, one full collection of a live tree of depth 16", 1e6),
+        ("trees", "262144", "ns a node, binary trees, S = 262144", (2**15 - 1) / 40 + 2**13 - 1),
+        ("trees", "1048576", "ns a node, binary trees, S = 1048576", (2**15 - 1) / 40 + 2**13 - 1),
+    ):
+        ours = "collect" if subject == "full-collection" else "archive"
+        said = [
+            "%s %.2f (%.2f)" % (c, m.time(subject, workload, c) / divide, m.time_ratio(subject, workload, c, ours))
+            for s, w, c in m.runs[0]
+            if (s, w) == (subject, workload)
+        ]
+        print("%s, and the ratio to the archive:\n  %s" % (unit, ", ".join(sorted(said))))
+
+
+def tables(m):
+    print("Instructions, as ratios; '!' is above the bar.")
+    collecting(m.count_ratio, 0)
+    words = m.counts["collecting", "empty", "check"] / 2097153
+    print("check of an empty heap: %.2f instructions a word read, bar 1.40%s\n" % (words, "!" if words > 1.4 else ""))
+    if m.runs:
+        rounds = len(next(iter(m.runs[0].values())))
+        print("Time, as ratios: the middle of %d runs of %d rounds." % (len(m.runs), rounds))
+        collecting(m.time_ratio, 1)
+        print("Between the lowest and the highest run:")
+        for name, of, to, *_ in RATIOS:
+            each = [m.time_ratios("collecting", w, of, to) for w in WORKLOADS]
+            print("%-27s%s" % (name, " ".join("%.2f-%.2f" % (r[0], r[-1]) for r in each)))
+        print("Microseconds of one call:")
+        for c in dict.fromkeys(c for s, _, c in m.runs[0] if s == "collecting"):
+            each = [(3 if w == "small" else 0, m.time("collecting", w, c) / 1e3) for w in WORKLOADS]
+            print("%-27s%s" % (c, "".join("%7.*f " % pair for pair in each)))
+        print()
+    allocating(m)
+    growth(m)
+    if m.runs:
+        peers(m)
+
+
+# ---- the picture ----
+
+INSTRUCTIONS, TIME, INK, GRID = "#2b6cb0", "#dd8a2e", "#222222", "#d0d0d0"
+
+
+def text(x, y, words, size=11, anchor="middle", fill=INK):
+    where = 'x="%.1f" y="%.1f" font-size="%d" text-anchor="%s" fill="%s"' % (x, y, size, anchor, fill)
+    return "<text %s>%s</text>" % (where, words)
+
+
+def column(x, top, base, width, colour):
+    return '<rect x="%.1f" y="%.1f" width="%.1f" height="%.1f" fill="%s"/>' % (x, top, width, base - top, colour)
+
+
+def line(x1, y1, x2, y2, colour, more=""):
+    return '<line x1="%.1f" y1="%.1f" x2="%.1f" y2="%.1f" stroke="%s" %s/>' % (x1, y1, x2, y2, colour, more)
+
+
+def panel(top, title, names, counted, timed, bars, highest=1.75):
+    """One group of two columns for each name, and the bars as dashed lines."""
+    left, width, height = 60, 880, 130
+    base = top + 30 + height
+    up = lambda v: base - min(v, highest) / highest * height
+    said = [text(left, top + 14, title, 14, "start")]
+    for tick in 0, 0.5, 1, 1.5:
+        said.append(line(left, up(tick), left + width, up(tick), GRID))
+        said.append(text(left - 8, up(tick) + 4, "%g" % tick, 11, "end"))
+    step = width / len(names)
+    wide = min(26, step * 0.44)
+    for i, name in enumerate(names):
+        middle = left + step * (i + 0.5)
+        for value, colour, x in (counted[i], INSTRUCTIONS, middle - wide), (timed[i], TIME, middle):
+            said.append(column(x, up(value), base, wide - 1, colour))
+            inside = value > 0.3
+            ink = "white" if inside else INK
+            said.append(text(x + wide / 2, base - (6 if inside else 3), "%.2f" % value, 9, "middle", ink))
+        said.append(text(middle, base + 15, name, 11))
+    for bar, colour in zip(bars, (INSTRUCTIONS, TIME)):
+        dashed = 'stroke-dasharray="5 4" stroke-width="1.5"'
+        said.append(line(left, up(bar), left + width, up(bar), colour, dashed))
+    said.append(line(left, up(1), left + width, up(1), INK))
+    return said
+
+
+def growth_panel(top, m):
+    left, width, height = 60, 880, 150
+    base = top + 30 + height
+    _, by_live = growing(m)
+    highest = max(m.counts["growth", "1048576/%d" % n, "full"] for n in by_live)
+    title = "Millions of instructions of one collection, by live words; S = 1,048,576"
+    across = lambda n: left + (width - 70) * n / 1048576
+    said = [text(left, top + 14, title, 14, "start")]
+    for tick in 0, 10, 20, 30, 40:
+        y = base - tick * 1e6 / highest * height
+        said += [line(left, y, left + width, y, GRID), text(left - 8, y + 4, tick, 11, "end")]
+    for c, name, colour, shift in (
+        ("bare", "(a)", "#888888", -2),
+        ("engine", "engine", "#2f855a", 11),
+        ("full", "(b)", TIME, 2),
+        ("collect", "collect", INSTRUCTIONS, 8),
+    ):
+        share = [m.counts["growth", "1048576/%d" % n, c] / highest for n in by_live]
+        points = [(across(n), base - y * height) for n, y in zip(by_live, share)]
+        joined = " ".join("%.1f,%.1f" % p for p in points)
+        said.append('<polyline fill="none" stroke="%s" stroke-width="2" points="%s"/>' % (colour, joined))
+        said.append(text(points[-1][0] + 8, points[-1][1] + shift, name, 11, "start", colour))
+    said += [text(across(n), base + 15, "{:,}".format(n)) for n in by_live]
+    return said
+
+
+def picture(m):
+    said, top = [], 50
+    for title, of, to, bars in (
+        ("collect / (b): C with all duties of collect", "collect", "full", (1.15, 1.30)),
+        ("engine / (a): bare Cheney in C", "engine", "bare", (1.10, 1.10)),
+        ("check / C's check", "check", "full-check", (1.15, 1.10)),
+    ):
+        counted = [m.count_ratio("collecting", w, of, to) for w in WORKLOADS]
+        timed = [m.time_ratio("collecting", w, of, to) for w in WORKLOADS]
+        said += panel(top, title, WORKLOADS, counted, timed, bars)
+        top += 205
+    fields = workloads_of(m.counts, "allocating")
+    counted = [m.count_ratio("allocating", n, "archive", "baseline") for n in fields]
+    timed = [m.time_ratio("allocating", n, "archive", "baseline") for n in fields]
+    said += panel(top, "allocate / (c): bump allocation in C, by fields", fields, counted, timed, ALLOCATE)
+    top += 205
+    said += growth_panel(top, m)
+    head = [text(60, 28, "The archive beside C: ratios, less is better; dashed lines are the bars", 16, "start")]
+    for x, colour, name in (700, INSTRUCTIONS, "instructions"), (810, TIME, "time"):
+        head += [column(x, 18, 30, 12, colour), text(x + 18, 28, name, 12, "start")]
+    size = 'width="960" height="%d" viewBox="0 0 960 %d"' % (top + 215, top + 215)
+    lines = ['<svg xmlns="http://www.w3.org/2000/svg" %s font-family="sans-serif">' % size]
+    lines += ['<rect width="100%" height="100%" fill="white"/>', *head, *said, "</svg>", ""]
+    return "\n".join(lines)
+
+
+# ---- counts ----
+
+
+def join(said, log):
+    with open(log) as lines:
+        counted = {tag: int(count) for _, tag, count in (line.split() for line in lines if line.startswith("count "))}
+    with open(said) as lines:
+        for line in lines:
+            if line.startswith("tag "):
+                _, tag, subject, workload, contender, calls = line.split()
+                each = (counted[tag] - counted["0"]) / int(calls)
+                print(subject, workload, contender, "%.0f" % each if each == int(each) else "%.3f" % each)
+
+
+def compare(stored, counts):
+    before, now = read_counts(stored), read_counts(counts)
+    differ = [k for k in {**before, **now} if before.get(k) != now.get(k)]
+    for key in differ:
+        was, is_ = before.get(key), now.get(key)
+        change = " (%+.2f %%)" % (100 * (is_ / was - 1)) if was and is_ else ""
+        print("differs: %s: stored %s, now %s%s" % (" ".join(key), was, is_, change))
+    print("bench: %d counts, %d differ from bench/counts.txt" % (len(now), len(differ)))
+    return 1 if differ else 0
+
+
+def main(words):
+    if words[0] == "--join":
+        return join(*words[1:])
+    if words[0] == "--compare":
+        return compare(*words[1:])
+    target = None
+    if "--picture" in words:
+        at = words.index("--picture")
+        target = words[at + 1]
+        words = words[:at]
+    m = Measured(read_counts(words[0]), [read_times(path) for path in words[1:]])
+    tables(m)
+    if target:
+        with open(target, "w") as out:
+            out.write(picture(m))
+    return 0
+
+
+sys.exit(main(sys.argv[1:]))

@@ -1,0 +1,29 @@
+-- `allocator::at_once::allocate` meets its contract: the object is placed.
+use Rattle.model.specs.Headers.{tuple}
+use Rattle.model.specs.Words.{lent}
+use Rattle.allocator.proofs.AllocateCases.{at-once-place, at-once-done}
+use borrow.Author.Needs.{needs}
+use Rattle.allocator.proofs.at_once.allocate.Statement.{statement}
+use Rattle.allocator.proofs.at_once.allocate.Tie as tie
+use Rattle.allocator.proofs.at_once.allocate.Reads as reads
+use Rattle.allocator.proofs.at_once.allocate.Lts as lts
+use Rattle.allocator.proofs.placing.place.Reads as place-reads
+
+place-requires : tie.Need-place-requires
+place-requires c κs =
+    let s = c .before .before .before .before in
+    at-once-place tuple (s .args .kind) (s .args .fields) (s .args .to) (lent (s .args .heap .now) (s .args .roots .now) (s .args .«record»)) (s .pre)
+
+same-length : tie.Need-same-length
+same-length c = search needs
+
+same-length-2 : tie.Need-same-length-2
+same-length-2 c = search needs
+
+returns : tie.Need-returns
+returns c =
+    let s = c .before .before .before .before .before .before .before .before .before in
+    rw (at-once-done tuple (s .args .kind) (s .args .fields) (s .args .to) (lent (s .args .heap .now) (s .args .roots .now) (s .args .«record»)) (s .pre), ← (c .before .before .before .before .place .ensures))
+
+pub allocate-spec : {M : Type 1} → statement M
+allocate-spec = tie.close (tie.spec place-requires same-length same-length-2 returns)

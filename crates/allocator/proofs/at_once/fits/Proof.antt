@@ -1,0 +1,29 @@
+-- `allocator::at_once::fits` meets its contract, test by test.
+use mathlib.Core.Path.{_∙_, sym}
+use borrow.Author.Tests.{le-leb, lt-leb}
+use Rattle.allocator.proofs.AllocateCases.{numbers-spare}
+use borrow.Author.Needs.{needs}
+use Rattle.allocator.proofs.at_once.fits.Statement.{statement}
+use Rattle.allocator.proofs.at_once.fits.Tie as tie
+use Rattle.allocator.proofs.at_once.fits.Reads as reads
+use Rattle.allocator.proofs.at_once.fits.Lts as lts
+use Rattle.allocator.proofs.placing.spare_of.Reads as spare-of-reads
+use Rattle.words.proofs.shape.bad_shape.Reads as bad-shape-reads
+
+bad-shape-requires : tie.Need-bad-shape-requires
+bad-shape-requires c κs = search needs
+
+returns : tie.Need-returns
+returns c = rw (sym (c .before .bad-shape .ensures) ∙ c .if1 .taken)
+
+returns-2 : tie.Need-returns-2
+returns-2 c = rw (sym (c .before .before .bad-shape .ensures) ∙ c .before .if1 .left, le-leb _ _ (c .if2 .taken))
+
+spare-of-requires : tie.Need-spare-of-requires
+spare-of-requires c κs = numbers-spare _ _ _ (sym (c .before .before .bad-shape .ensures) ∙ c .before .if1 .left)
+
+returns-3 : tie.Need-returns-3
+returns-3 c = rw (sym (c .before .before .before .bad-shape .ensures) ∙ c .before .before .if1 .left, lt-leb _ _ (c .before .if2 .left), c .spare-of .ensures)
+
+pub fits-spec : {M : Type 1} → statement M
+fits-spec = tie.close (tie.spec bad-shape-requires returns returns-2 spare-of-requires returns-3)

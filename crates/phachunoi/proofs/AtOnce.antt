@@ -1,0 +1,53 @@
+-- An allocation that is done at once, and what goes back to C: the record that came has a half, since with none nothing fits.
+-- Assumes nothing.
+use Prim.Native.Nat.{ℕ}
+use mathlib.Core.Path.{_≡_, refl, ap, _∙_, subst}
+use mathlib.Core.Bool.{Bool, true, false}
+use mathlib.Core.List.{List}
+use lib.ListN.{length}
+use Rattle.model.specs.declared.Kind.{Kind}
+use Rattle.model.specs.declared.Record.{Record}
+use Rattle.model.specs.declared.Call.the-variants as Ask
+use Rattle.model.specs.declared.Answer.the-variants as Says
+use Rattle.model.specs.Words.{lent}
+use Rattle.model.specs.Headers.{tuple}
+use Rattle.model.specs.Answers.{says, told}
+use Rattle.model.specs.Calls.{allocate}
+use Rattle.model.specs.Sessions.{step}
+use Rattle.model.proofs.Tests.{never}
+use Rattle.allocator.specs.Placing.{atOnce}
+use Rattle.allocator.proofs.AllocateCases.{at-once-shaped}
+use Rattle.crossing.specs.declared.CRecord.{CRecord}
+use Rattle.crossing.specs.declared.CResult.{CResult}
+use Rattle.crossing.specs.Numbers.{given, called, result, noHalf, numbersOf}
+use Rattle.crossing.specs.Crossing.{nowhere, taken, back, Narrow}
+use Rattle.crossing.proofs.ShapeFirst.{nowhere-bad}
+use Rattle.crossing.proofs.Crosses.{crosses, narrow}
+
+taken-nowhere : (c : CRecord) → noHalf c ≡ true → taken c ≡ nowhere
+taken-nowhere c e = rw e
+
+back-there : (c : CRecord) (p : Record) → noHalf c ≡ false → numbersOf p ≡ back c p
+back-there c p e = rw e
+
+module _ {H′ R′ : List ℕ} {p q : Record} (c : CRecord) (H R : List ℕ) (k : Kind) (n r : ℕ) (e : q ≡ taken c)
+    (f : atOnce (length H) (length R) q n r ≡ true) (g : says Says.Done (lent H′ R′ p) ≡ allocate tuple k n r (lent H R q)) where
+  has-half : noHalf c ≡ false
+  has-half = go (noHalf c) refl
+    where
+      fitted-nowhere : noHalf c ≡ true → atOnce (length H) (length R) nowhere n r ≡ true
+      fitted-nowhere z = subst (λ (x : Record). atOnce (length H) (length R) x n r ≡ true) (e ∙ taken-nowhere c z) f
+
+      go : (b : Bool) → noHalf c ≡ b → noHalf c ≡ false
+      go false z = z
+      go true z = never (nowhere-bad H R) (at-once-shaped tuple k n r (lent H R nowhere) (fitted-nowhere z))
+
+  pub at-once-crosses : {a : CResult} → a ≡ result (told Says.Done) (numbersOf p) → given a H′ R′ ≡ called result (allocate tuple k n r) H R c
+  unfolding step
+  at-once-crosses h =
+      crosses result c {o = record { answer = Says.Done; «record» = p }} H R (Ask.Allocate k n r) e g
+      (h ∙ ap (result (told Says.Done)) (back-there c p has-half))
+
+  pub at-once-narrow : Narrow (c .free) → Narrow (p .free .0)
+  unfolding step
+  at-once-narrow = narrow {o = record { answer = Says.Done; «record» = p }} c H R (Ask.Allocate k n r) e g
