@@ -112,8 +112,9 @@ def allocating(m):
     for contender in "baseline", "archive":
         each = [m.counts["allocating", n, contender] / objects[n] for n in fields]
         row("  instructions, " + contender, ["%7.1f " % x for x in each], None)
-        each = [m.time("allocating", n, contender) / objects[n] for n in fields] if m.runs else []
-        row("  ns, " + contender, ["%7.1f " % x for x in each], None)
+        if m.runs:
+            each = [m.time("allocating", n, contender) / objects[n] for n in fields]
+            row("  ns, " + contender, ["%7.1f " % x for x in each], None)
     print()
 
 
