@@ -239,10 +239,10 @@ def growth_panel(top, m):
         y = base - tick * 1e6 / highest * height
         said += [line(left, y, left + width, y, GRID), text(left - 8, y + 4, tick, 11, "end")]
     for c, name, colour, shift in (
-        ("bare", "(a)", "#888888", -2),
-        ("engine", "engine", "#2f855a", 11),
-        ("full", "(b)", TIME, 2),
-        ("collect", "collect", INSTRUCTIONS, 8),
+        ("bare", "(a)", "#888888", 11),
+        ("engine", "engine", "#2f855a", -2),
+        ("full", "(b)", TIME, -2),
+        ("collect", "collect", INSTRUCTIONS, 11),
     ):
         share = [m.counts["growth", "1048576/%d" % n, c] / highest for n in by_live]
         points = [(across(n), base - y * height) for n, y in zip(by_live, share)]
