@@ -16,7 +16,8 @@ use Rattle.objects.proofs.reach.Reads as reach-reads
 abbrev start : tie.Start → State
 start c = lent (c .args .heap .now) (c .args .roots .now) (c .args .«record»)
 
-reached-at : (c : tie.After-found) → Reaches (start (c .before .before .before .before .before .before)) (c .before .before .before .before .before .before .args .object) (c .before .before .before .before .before .before .args .to) (c .found .given .0 .0)
+reached-at : (c : tie.After-found) → let s = c .before .before .before .before .before .before in
+    Reaches (start s) (s .args .object) (s .args .to) (c .found .given .0 .0)
 reached-at c = reaches _ _ _ _ _ (start (c .before .before .before .before .before .before)) _ (sym (c .before .before .reach .ensures) ∙ c .found .given .1)
 
 reach-requires : tie.Need-reach-requires
@@ -50,13 +51,19 @@ same-length : tie.Need-same-length
 same-length c = search needs
 
 returns : tie.Need-returns
-returns c = said _ _ (c .say .ensures) (by-field _ _ (load-reached _ _ _ _ _) (sym (c .before .before .before .before .before .reach .ensures) ∙ c .before .before .before .found .given .1))
+returns c =
+    let found = c .before .before .before in
+    said _ _ (c .say .ensures)
+    (by-field _ _ (load-reached _ _ _ _ _) (sym (found .before .before .reach .ensures) ∙ found .found .given .1))
 
 same-length-2 : tie.Need-same-length-2
 same-length-2 c = search needs
 
 returns-2 : tie.Need-returns-2
-returns-2 c = said _ _ (c .say2 .ensures) (by-refusal _ _ (load-reached _ _ _ _ _) (sym (c .before .before .before .before .reach .ensures) ∙ c .before .before .found2 .given .1))
+returns-2 c =
+    let found = c .before .before in
+    said _ _ (c .say2 .ensures)
+    (by-refusal _ _ (load-reached _ _ _ _ _) (sym (found .before .before .reach .ensures) ∙ found .found2 .given .1))
 
 pub load-spec : {M : Type 1} → statement M
 load-spec =
