@@ -11,7 +11,8 @@ use Rattle.model.specs.declared.Answered.{Answered}
 use Rattle.model.specs.Words.{State, lent}
 use Rattle.model.specs.Answers.{Outcome, says, outcome, refuse}
 
-pub said : {r : Answered} {a : Answer} {q : Record} {o : Outcome} (H R : List ℕ) → r ≡ record { answer = a; «record» = q } → says a (lent H R q) ≡ o → outcome r H R ≡ o
+pub said : {r : Answered} {a : Answer} {q : Record} {o : Outcome} (H R : List ℕ)
+    → r ≡ record { answer = a; «record» = q } → says a (lent H R q) ≡ o → outcome r H R ≡ o
 said H R e f = ap (λ (x : Answered). outcome x H R) e ∙ f
 
 -- a refusal whose test holds is given; one whose test fails leaves what follows

@@ -38,8 +38,9 @@ module _ (Y : Layout) where
   pub named-ends : (s : State) (w : ℕ) → names Y s w ≡ true → index Y w + size Y (s .heap) (index Y w) ≤ free s
   unfolding names
   named-ends s w h =
+      let i = index Y w in
       leb-true _ _
-      (and-both (isAddress w && eqb (w % 4) 0 && leb (firstWord s) (index Y w) && ltb (index Y w) (free s) && Y .isHeader (at (s .heap) (index Y w))) _ h .1)
+      (and-both (isAddress w && eqb (w % 4) 0 && leb (firstWord s) i && ltb i (free s) && Y .isHeader (at (s .heap) i)) _ h .1)
 
   pub header-in : (H R : List ℕ) (q : Record) (w : ℕ) → FreeInHeap H q → names Y (lent H R q) w ≡ true → index Y w < length H
   header-in H R q w g h = omega (arith, named-ends (lent H R q) w h)
@@ -51,6 +52,7 @@ module _ (Y : Layout) where
   -- the field by its three tests, whatever each comes to, at the header's index as the code has it
   pub field-tests : {a b c : Bool} (k : Kind) (w f i : ℕ) (s : State) → i ≡ index Y w
       → not (names Y s w) ≡ a → not (isOfKind k (kind Y (s .heap) i)) ≡ b → leb (fieldCount Y (s .heap) i) f ≡ c
-      → cond a (Refused Why.Object) (cond b (Refused Why.Kind) (cond c (Refused Why.Field) (At (record { 0 = fieldIndex i f })))) ≡ fieldOf Y k w f s
+      → cond a (Refused Why.Object) (cond b (Refused Why.Kind) (cond c (Refused Why.Field) (At (record { 0 = fieldIndex i f }))))
+      ≡ fieldOf Y k w f s
   unfolding fieldOf
   field-tests k w f i s e pa pb pc = simp (sym e, pa, pb, pc)

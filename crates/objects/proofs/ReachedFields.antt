@@ -32,11 +32,13 @@ answered (At i) s next = next (i .0)
 answered (Refused k) s next = says (Says.Refused k) s
 
 -- such a call, where the field is known, or the refusal
-pub by-field : {o : Outcome} {x : Field} {i : Index} (s : State) (next : ℕ → Outcome) → o ≡ answered x s next → x ≡ At i → next (i .0) ≡ o
+pub by-field : {o : Outcome} {x : Field} {i : Index} (s : State) (next : ℕ → Outcome)
+    → o ≡ answered x s next → x ≡ At i → next (i .0) ≡ o
 unfolding answered
 by-field s next e f = sym (e ∙ ap (λ (x : Field). answered x s next) f)
 
-pub by-refusal : {o : Outcome} {x : Field} {k : Refusal} (s : State) (next : ℕ → Outcome) → o ≡ answered x s next → x ≡ Refused k → says (Says.Refused k) s ≡ o
+pub by-refusal : {o : Outcome} {x : Field} {k : Refusal} (s : State) (next : ℕ → Outcome)
+    → o ≡ answered x s next → x ≡ Refused k → says (Says.Refused k) s ≡ o
 unfolding answered
 by-refusal s next e f = sym (e ∙ ap (λ (x : Field). answered x s next) f)
 
@@ -73,7 +75,8 @@ module _ (Y : Layout) where
       (onField Y k (rootWord s r) f s (next (fieldIndex (index Y (rootWord s r)) f))))
       ≡ answered (reached Y k r f r s) s next
   on-reached-once k r f s next =
-      ap (λ (b : Bool). refuse (badShape s) Why.Shape s (refuse b Why.Root s (onField Y k (rootWord s r) f s (next (fieldIndex (index Y (rootWord s r)) f))))) (sym (or-self (noRoot s r)))
+      let onward = onField Y k (rootWord s r) f s (next (fieldIndex (index Y (rootWord s r)) f)) in
+      ap (λ (b : Bool). refuse (badShape s) Why.Shape s (refuse b Why.Root s onward)) (sym (or-self (noRoot s r)))
       ∙ on-reached k r f r s next
 
   pub load-reached : (r f to : ℕ) (s : State)

@@ -3,7 +3,7 @@ use mathlib.Core.Path.{_≡_, _∙_, sym}
 use mathlib.Core.Bool.{false}
 use native.Mathlib.Omega.{arith}
 use Rattle.model.specs.Headers.{tuple}
-use Rattle.model.specs.Words.{lent}
+use Rattle.model.specs.Words.{State, lent}
 use Rattle.model.specs.Shape.{badShape}
 use Rattle.model.proofs.Shape.{shaped}
 use Rattle.allocator.proofs.AllocateCases.{allocate-shape, allocate-root, allocate-count, allocate-now, allocate-retry, may-spare, may-place}
@@ -17,9 +17,12 @@ use Rattle.allocator.proofs.placing.place.Reads as place-reads
 use Rattle.allocator.proofs.placing.spare_of.Reads as spare-of-reads
 use Rattle.words.proofs.shape.bad_shape.Reads as bad-shape-reads
 
--- past the first test the shape is good
-fair : (c : tie.Else1) → badShape (lent (c .before .before .before .before .args .heap .now) (c .before .before .before .before .args .roots .now) (c .before .before .before .before .args .«record»)) ≡ false
-fair c = sym (c .before .bad-shape .ensures) ∙ c .if1 .left
+-- what the call was lent
+abbrev start : tie.Start → State
+start c = lent (c .args .heap .now) (c .args .roots .now) (c .args .«record»)
+
+shape : (c : tie.Else1) → badShape (start (c .before .before .before .before)) ≡ false
+shape c = sym (c .before .bad-shape .ensures) ∙ c .if1 .left
 
 bad-shape-requires : tie.Need-bad-shape-requires
 bad-shape-requires c κs = search needs
@@ -28,20 +31,27 @@ returns : tie.Need-returns
 returns c = sym (allocate-shape tuple _ _ _ _ (sym (c .before .bad-shape .ensures) ∙ c .if1 .taken))
 
 returns-2 : tie.Need-returns-2
-returns-2 c = sym (allocate-root tuple _ _ _ _ (fair (c .before)) (c .if2 .taken))
+returns-2 c = sym (allocate-root tuple _ _ _ _ (shape (c .before)) (c .if2 .taken))
 
 returns-3 : tie.Need-returns-3
-returns-3 c = sym (allocate-count tuple _ _ _ _ (fair (c .before .before)) (c .before .if2 .left) (c .if3 .taken))
+returns-3 c = sym (allocate-count tuple _ _ _ _ (shape (c .before .before)) (c .before .if2 .left) (c .if3 .taken))
 
 spare-of-requires : tie.Need-spare-of-requires
 spare-of-requires c κs =
-    let s = c .before .before .before .before .before .before in
-    may-spare (lent (s .args .heap .now) (s .args .roots .now) (s .args .«record»)) (shaped (lent (s .args .heap .now) (s .args .roots .now) (s .args .«record»)) (fair (c .before .before)))
+    let tested = c .before .before in
+    let s = tested .before .before .before .before in
+    may-spare (start s) (shaped (start s) (shape tested))
 
 place-requires : tie.Need-place-requires
 place-requires c κs =
-    let s = c .before .before .before .before .before .before .before .before .before .before in
-    may-place (lent (s .args .heap .now) (s .args .roots .now) (s .args .«record»)) (s .args .fields) (s .args .to) (shaped (lent (s .args .heap .now) (s .args .roots .now) (s .args .«record»)) (fair (c .before .before .before .before .before .before))) (c .before .before .before .before .before .if2 .left) (c .before .before .before .before .if3 .left) (omega (arith, c .before .before .before .spare-of .ensures, c .before .before .if4 .taken))
+    let roomy = c .before .before in
+    let counted = roomy .before .before in
+    let rooted = counted .before in
+    let tested = rooted .before in
+    let s = tested .before .before .before .before in
+    may-place (start s) (s .args .fields) (s .args .to)
+    (shaped (start s) (shape tested)) (rooted .if2 .left) (counted .if3 .left)
+    (omega (arith, roomy .before .spare-of .ensures, roomy .if4 .taken))
 
 same-length : tie.Need-same-length
 same-length c = search needs
@@ -51,8 +61,17 @@ same-length-2 c = search needs
 
 returns-4 : tie.Need-returns-4
 returns-4 c =
-    let s = c .before .before .before .before .before .before .before .before .before .before .before .before .before .before .before in
-    rw (allocate-now tuple (s .args .kind) (s .args .fields) (s .args .to) (lent (s .args .heap .now) (s .args .roots .now) (s .args .«record»)) (fair (c .before .before .before .before .before .before .before .before .before .before .before)) (c .before .before .before .before .before .before .before .before .before .before .if2 .left) (c .before .before .before .before .before .before .before .before .before .if3 .left) (omega (arith, c .before .before .before .before .before .before .before .before .spare-of .ensures, c .before .before .before .before .before .before .before .if4 .taken)), ← (c .before .before .before .before .place .ensures))
+    let roomy = c .before .before .before .before .before .before .before in
+    let counted = roomy .before .before in
+    let rooted = counted .before in
+    let tested = rooted .before in
+    let s = tested .before .before .before .before in
+    rw (
+      allocate-now tuple (s .args .kind) (s .args .fields) (s .args .to) (start s)
+          (shape tested) (rooted .if2 .left) (counted .if3 .left)
+          (omega (arith, roomy .before .spare-of .ensures, roomy .if4 .taken)),
+      ← (c .before .before .before .before .place .ensures),
+    )
 
 retry-requires : tie.Need-retry-requires
 retry-requires c κs = search needs
@@ -65,8 +84,16 @@ same-length-4 c = search needs
 
 returns-5 : tie.Need-returns-5
 returns-5 c =
-    let s = c .before .before .before .before .before .before .before .before .before .before .before .before .before .before .before in
-    c .before .before .before .before .retry .ensures ∙ sym (allocate-retry tuple (s .args .kind) (s .args .fields) (s .args .to) (lent (s .args .heap .now) (s .args .roots .now) (s .args .«record»)) (fair (c .before .before .before .before .before .before .before .before .before .before .before)) (c .before .before .before .before .before .before .before .before .before .before .if2 .left) (c .before .before .before .before .before .before .before .before .before .if3 .left) (omega (arith, c .before .before .before .before .before .before .before .before .spare-of .ensures, c .before .before .before .before .before .before .before .if4 .left)))
+    let full = c .before .before .before .before .before .before .before in
+    let counted = full .before .before in
+    let rooted = counted .before in
+    let tested = rooted .before in
+    let s = tested .before .before .before .before in
+    rw
+    (allocate-retry tuple (s .args .kind) (s .args .fields) (s .args .to) (start s)
+    (shape tested) (rooted .if2 .left) (counted .if3 .left)
+    (omega (arith, full .before .spare-of .ensures, full .if4 .left)))
+    (c .before .before .before .before .retry .ensures)
 
 pub allocate-spec : {M : Type 1} → statement M
 allocate-spec =

@@ -3,7 +3,7 @@ use mathlib.Core.Path.{_≡_, _∙_, sym}
 use mathlib.Core.Bool.{true}
 use native.Mathlib.Omega.{arith}
 use Rattle.model.specs.Headers.{tuple}
-use Rattle.model.specs.Words.{lent}
+use Rattle.model.specs.Words.{State, lent}
 use Rattle.model.specs.Soundness.{sound}
 use Rattle.model.specs.Collection.{collected}
 use Rattle.allocator.proofs.Left.{left-is, left-shaped, left-roots}
@@ -18,13 +18,27 @@ use Rattle.engine.proofs.collect_sound.Reads as collect-sound-reads
 use Rattle.allocator.proofs.placing.place.Reads as place-reads
 use Rattle.allocator.proofs.placing.spare_of.Reads as spare-of-reads
 
--- once the collection is done: the heap was found sound, and this is what is left
-checked : (c : tie.After-after) → sound tuple (lent (c .before .before .before .before .before .before .before .before .before .before .before .before .before .before .before .before .args .heap .now) (c .before .before .before .before .before .before .before .before .before .before .before .before .before .before .before .before .args .roots .now) (c .before .before .before .before .before .before .before .before .before .before .before .before .before .before .before .before .args .«record»)) ≡ true
-checked c = sym (c .before .before .before .before .before .before .before .before .before .before .before .is-sound .ensures .0) ∙ c .before .before .before .before .before .before .before .before .if1 .taken
+-- what the call was lent
+abbrev start : tie.Start → State
+start c = lent (c .args .heap .now) (c .args .roots .now) (c .args .«record»)
 
-left : (c : tie.After-after) → lent (c .before .before .before .before .before .collect-sound .last .0) (c .before .before .before .before .before .collect-sound .last .1 .0) (c .before .before .before .before .before .collect-sound .result .«record»)
-    ≡ collected tuple (lent (c .before .before .before .before .before .before .before .before .before .before .before .before .before .before .before .before .args .heap .now) (c .before .before .before .before .before .before .before .before .before .before .before .before .before .before .before .before .args .roots .now) (c .before .before .before .before .before .before .before .before .before .before .before .before .before .before .before .before .args .«record»))
-left c = left-is tuple _ _ _ _ (c .before .before .before .before .before .before .before .before .before .before .before .is-sound .ensures .1) _ _ (c .before .before .before .before .before .collect-sound .ensures)
+abbrev origin : tie.After-after → tie.Start
+origin c =
+    let tested = c .before .before .before .before .before .before .before .before in
+    tested .before .before .before .before .before .before .before .before
+
+-- once the collection is done: the heap was found sound, and this is what is left
+checked : (c : tie.After-after) → sound tuple (start (origin c)) ≡ true
+checked c =
+    let tested = c .before .before .before .before .before .before .before .before in
+    sym (tested .before .before .before .is-sound .ensures .0) ∙ tested .if1 .taken
+
+left : (c : tie.After-after) → let l = c .before .before .before .before .before .collect-sound in
+    lent (l .last .0) (l .last .1 .0) (l .result .«record») ≡ collected tuple (start (origin c))
+left c =
+    let done = c .before .before .before .before .before in
+    let asked = done .before .before .before .before .before .before in
+    left-is tuple _ _ _ _ (asked .is-sound .ensures .1) _ _ (done .collect-sound .ensures)
 
 is-sound-requires : tie.Need-is-sound-requires
 is-sound-requires c κs = search needs
@@ -39,8 +53,11 @@ spare-of-requires c κs = may-spare _ (left-shaped tuple _ (checked c) _ (left c
 
 place-requires : tie.Need-place-requires
 place-requires c κs =
-    let a = c .before .before .before .before in
-    may-place _ _ _ (left-shaped tuple _ (checked a) _ (left a)) (omega (arith, left-roots tuple _ (checked a) _ (left a), a .before .before .before .before .before .before .before .before .before .before .before .before .before .before .before .before .pre .1)) (a .before .before .before .before .before .before .before .before .before .before .before .before .before .before .before .before .pre .0) (omega (arith, c .before .before .before .spare-of .ensures, c .before .before .if2 .taken))
+    let roomy = c .before .before in
+    let a = roomy .before .before in
+    may-place _ _ _ (left-shaped tuple _ (checked a) _ (left a))
+    (omega (arith, left-roots tuple _ (checked a) _ (left a), origin a .pre .1)) (origin a .pre .0)
+    (omega (arith, roomy .before .spare-of .ensures, roomy .if2 .taken))
 
 same-length : tie.Need-same-length
 same-length c = search needs
@@ -50,8 +67,11 @@ same-length-2 c = search needs
 
 returns : tie.Need-returns
 returns c =
-    let a = c .before .before .before .before .before .before .before .before .before in
-    retried-done tuple _ _ _ _ (checked a) _ (left a) _ (c .before .before .before .before .before .before .before .before .spare-of .ensures) (c .before .before .before .before .before .before .before .if2 .taken) _ (c .before .before .before .before .place .ensures)
+    let placed = c .before .before .before .before in
+    let roomy = placed .before .before .before in
+    let a = roomy .before .before in
+    retried-done tuple _ _ _ _ (checked a) _ (left a) _
+    (roomy .before .spare-of .ensures) (roomy .if2 .taken) _ (placed .place .ensures)
 
 same-length-3 : tie.Need-same-length-3
 same-length-3 c = search needs

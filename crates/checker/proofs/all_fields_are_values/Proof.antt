@@ -19,7 +19,8 @@ use Rattle.words.proofs.tuple.Tuple.count_of.Reads as count-of-reads
 abbrev Inv-loop : tie.InvT-loop
 Inv-loop heap part free at₀ at =
     (tiles tuple heap free (free - at) at ≡ true)
-    × (all (fieldsAreValuesByMarks tuple heap part) (headersFrom tuple heap free (free - at) at) ≡ all (fieldsAreValuesByMarks tuple heap part) (headersOf tuple heap part))
+    × (all (fieldsAreValuesByMarks tuple heap part) (headersFrom tuple heap free (free - at) at)
+    ≡ all (fieldsAreValuesByMarks tuple heap part) (headersOf tuple heap part))
 
 abbrev μ-loop : tie.MeasureT-loop
 μ-loop heap part free at₀ at = free - at
@@ -29,17 +30,21 @@ loop-holds c = (c .before .pre .1, refl)
 
 fields-are-values-requires : tie.Need-fields-are-values-requires Inv-loop μ-loop
 fields-are-values-requires c κs =
-    let w = tile-within tuple _ _ (c .before .loop .at) (c .loop-test .taken) (c .before .loop .inv .0) in
-    (omega (arith, c .before .before .before .pre .0 .used), c .before .before .before .pre .0)
+    let turn = c .before in
+    let fits = turn .before .before .pre .0 in
+    let w = tile-within tuple _ _ (turn .loop .at) (c .loop-test .taken) (turn .loop .inv .0) in
+    (omega (arith, fits .used), fits)
 
 returns : tie.Need-returns Inv-loop μ-loop
 returns c =
-    let l = c .before .before .before .loop in
-    let a = c .before .before .before .before .before .args in
+    let turn = c .before .before .before in
+    let l = turn .loop in
+    let a = turn .before .before .args in
     let q = fieldsAreValuesByMarks tuple (a .heap .now) (a .part) in
     sym
     (sym (l .inv .1)
-    ∙ all-failed tuple (a .heap .now) (a .part .free .0) q (l .at) (c .before .before .loop-test .taken) (sym (c .before .fields-are-values .ensures) ∙ not-true _ (c .if1 .taken)))
+    ∙ all-failed tuple (a .heap .now) (a .part .free .0) q (l .at) (c .before .before .loop-test .taken)
+    (sym (c .before .fields-are-values .ensures) ∙ not-true _ (c .if1 .taken)))
 
 mul-count-of : tie.Need-mul-count-of Inv-loop μ-loop
 mul-count-of c = omega arith
@@ -61,20 +66,23 @@ loop-less c = omega arith
 
 loop-again : tie.Need-loop-again Inv-loop μ-loop
 loop-again c =
-    let l = c .before .before .before .before .before .loop in
-    let a = c .before .before .before .before .before .before .before .args in
-    let m = c .before .before .before .before .loop-test .taken in
+    let right = c .before .before in
+    let more = right .before .before in
+    let l = more .before .loop in
+    let a = more .before .before .before .args in
+    let m = more .loop-test .taken in
     let q = fieldsAreValuesByMarks tuple (a .heap .now) (a .part) in
+    let h = sym (right .before .fields-are-values .ensures) ∙ not-false _ (right .if1 .left) in
     rw (c .count-of .ensures .0) (
       tiles-turn tuple _ _ (l .at) m (l .inv .0),
-      all-passed tuple (a .heap .now) (a .part .free .0) q (l .at) m (sym (c .before .before .before .fields-are-values .ensures) ∙ not-false _ (c .before .before .if1 .left))
-          ∙ l .inv .1,
+      all-passed tuple (a .heap .now) (a .part .free .0) q (l .at) m h ∙ l .inv .1,
     )
 
 returns-2 : tie.Need-returns-2 Inv-loop μ-loop
 returns-2 c =
-    let l = c .before .loop in
-    let a = c .before .before .before .args in
+    let turn = c .before in
+    let l = turn .loop in
+    let a = turn .before .before .args in
     let q = fieldsAreValuesByMarks tuple (a .heap .now) (a .part) in
     sym (sym (l .inv .1) ∙ all-ended tuple (a .heap .now) (a .part .free .0) q (l .at) (c .loop-test .left))
 

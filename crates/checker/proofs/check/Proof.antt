@@ -1,6 +1,9 @@
 -- `checker::check` meets its contract: a law for each return.
-use mathlib.Core.Path.{sym, _∙_}
+use mathlib.Core.Path.{_≡_, sym, _∙_}
+use mathlib.Core.Bool.{false}
 use Rattle.model.specs.Headers.{tuple}
+use Rattle.model.specs.Words.{State, lent}
+use Rattle.model.specs.Shape.{badShape}
 use Rattle.checker.proofs.Returns.{check-refused, check-sound, check-unsound}
 use borrow.Author.Needs.{needs}
 use Rattle.checker.proofs.check.Statement.{statement}
@@ -9,6 +12,13 @@ use Rattle.checker.proofs.check.Reads as reads
 use Rattle.checker.proofs.check.Lts as lts
 use Rattle.checker.proofs.is_sound.Reads as is-sound-reads
 use Rattle.words.proofs.shape.bad_shape.Reads as bad-shape-reads
+
+-- what the call was lent
+abbrev start : tie.Start → State
+start c = lent (c .args .heap .now) (c .args .roots .now) (c .args .«record»)
+
+shape : (c : tie.Else1) → badShape (start (c .before .before .before .before)) ≡ false
+shape c = sym (c .before .bad-shape .ensures) ∙ c .if1 .left
 
 bad-shape-requires : tie.Need-bad-shape-requires
 bad-shape-requires c κs = search needs
@@ -24,16 +34,18 @@ same-length c = search needs
 
 returns-2 : tie.Need-returns-2
 returns-2 c =
-    let k = c .before .before .before .is-sound .ensures in
-    check-sound tuple _ _ _ (sym (c .before .before .before .before .before .before .bad-shape .ensures) ∙ c .before .before .before .before .before .if1 .left) _ (k .1) (sym (c .if2 .taken) ∙ k .0)
+    let asked = c .before .before .before in
+    let k = asked .is-sound .ensures in
+    check-sound tuple _ _ _ (shape (asked .before .before)) _ (k .1) (sym (c .if2 .taken) ∙ k .0)
 
 same-length-2 : tie.Need-same-length-2
 same-length-2 c = search needs
 
 returns-3 : tie.Need-returns-3
 returns-3 c =
-    let k = c .before .before .before .is-sound .ensures in
-    check-unsound tuple _ _ _ (sym (c .before .before .before .before .before .before .bad-shape .ensures) ∙ c .before .before .before .before .before .if1 .left) _ (k .1) (sym (c .if2 .left) ∙ k .0)
+    let asked = c .before .before .before in
+    let k = asked .is-sound .ensures in
+    check-unsound tuple _ _ _ (shape (asked .before .before)) _ (k .1) (sym (c .if2 .left) ∙ k .0)
 
 pub check-spec : {M : Type 1} → statement M
 check-spec =

@@ -18,12 +18,12 @@ use Rattle.checker.proofs.is_zero_around.Reads as is-zero-around-reads
 use Rattle.checker.proofs.part_of.Reads as part-of-reads
 use Rattle.words.proofs.shape.bad_shape.Reads as bad-shape-reads
 
--- what was lent
-abbrev given : tie.Else1 → State
-given c = lent (c .before .before .before .before .args .heap .now) (c .before .before .before .before .args .roots .now) (c .before .before .before .before .args .«record»)
+-- what the call was lent
+abbrev start : tie.Start → State
+start c = lent (c .args .heap .now) (c .args .roots .now) (c .args .«record»)
 
-fair : (c : tie.Else1) → badShape (given c) ≡ false
-fair c = sym (c .before .bad-shape .ensures) ∙ c .if1 .left
+shape : (c : tie.Else1) → badShape (start (c .before .before .before .before)) ≡ false
+shape c = sym (c .before .bad-shape .ensures) ∙ c .if1 .left
 
 bad-shape-requires : tie.Need-bad-shape-requires
 bad-shape-requires c κs = search needs
@@ -32,37 +32,47 @@ returns : tie.Need-returns
 returns c = (unsound-shape tuple _ _ _ (sym (c .before .bad-shape .ensures) ∙ c .if1 .taken), refl)
 
 sub-words : tie.Need-sub-words
-sub-words c = omega (arith, shaped (given c) (fair c) .odd)
+sub-words c = omega (arith, shaped (start (c .before .before .before .before)) (shape c) .odd)
 
 part-of-requires : tie.Need-part-of-requires
-part-of-requires c κs = shaped (given c) (fair c) .small
+part-of-requires c κs = shaped (start (c .before .before .before .before)) (shape c) .small
 
 is-zero-around-requires : tie.Need-is-zero-around-requires
 is-zero-around-requires c κs =
-    let a = c .before .before .before .before .before .before .args in
-    part-halves tuple _ (a .roots .now) _ (fair (c .before .before)) _ (c .before .part-of .ensures)
+    let parted = c .before in
+    let tested = parted .before in
+    let s = tested .before .before .before .before in
+    part-halves tuple _ (s .args .roots .now) _ (shape tested) _ (parted .part-of .ensures)
 
 same-length : tie.Need-same-length
 same-length c = search needs
 
 returns-2 : tie.Need-returns-2
 returns-2 c =
-    let u = unsound-around tuple _ _ _ (fair (c .before .before .before .before)) _ (c .before .before .before .part-of .ensures) in
-    (u (sym (not-true _ (c .if2 .taken)) ∙ c .before .is-zero-around .ensures), refl)
+    let cleared = c .before in
+    let parted = cleared .before .before in
+    let u = unsound-around tuple _ _ _ (shape (parted .before)) _ (parted .part-of .ensures) in
+    (u (sym (not-true _ (c .if2 .taken)) ∙ cleared .is-zero-around .ensures), refl)
 
 is-used-part-sound-requires : tie.Need-is-used-part-sound-requires
 is-used-part-sound-requires c κs =
-    let a = c .before .before .before .before .before .before .before .before .before .args in
-    part-fits tuple _ (a .roots .now) _ (fair (c .before .before .before .before .before)) _ (c .before .before .before .before .part-of .ensures)
+    let parted = c .before .before .before .before in
+    let tested = parted .before in
+    let s = tested .before .before .before .before in
+    part-fits tuple _ (s .args .roots .now) _ (shape tested) _ (parted .part-of .ensures)
 
 same-length-2 : tie.Need-same-length-2
 same-length-2 c = search needs
 
 returns-3 : tie.Need-returns-3
 returns-3 c =
-    let m = c .before .before .is-used-part-sound .ensures in
-    sound-used tuple _ _ _ (fair (c .before .before .before .before .before .before .before .before)) _ (c .before .before .before .before .before .before .before .part-of .ensures)
-    (sym (not-false _ (c .before .before .before .before .if2 .left)) ∙ c .before .before .before .before .before .is-zero-around .ensures) _ _ (m .0) (m .1)
+    let used = c .before .before in
+    let around = used .before .before in
+    let cleared = around .before in
+    let parted = cleared .before .before in
+    let m = used .is-used-part-sound .ensures in
+    sound-used tuple _ _ _ (shape (parted .before)) _ (parted .part-of .ensures)
+    (sym (not-false _ (around .if2 .left)) ∙ cleared .is-zero-around .ensures) _ _ (m .0) (m .1)
 
 pub is-sound-spec : {M : Type 1} → statement M
 is-sound-spec =

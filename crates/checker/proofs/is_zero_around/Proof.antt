@@ -20,8 +20,10 @@ all-zero-requires c κs = search needs
 
 returns-2 : tie.Need-returns-2
 returns-2 c =
-    let a = c .before .before .before .before .before .args in
-    around-dirty (a .heap .now) (a .part) (a .words) (c .before .before .if1 .left) (sym (not-true _ (c .if2 .taken)) ∙ c .before .all-zero .ensures)
+    let zero = c .before .before in
+    let a = zero .before .before .before .args in
+    around-dirty (a .heap .now) (a .part) (a .words) (zero .if1 .left)
+    (sym (not-true _ (c .if2 .taken)) ∙ c .before .all-zero .ensures)
 
 add-all-zero : tie.Need-add-all-zero
 add-all-zero c = search needs
@@ -34,9 +36,11 @@ all-zero-requires-2 c κs = search needs
 
 returns-3 : tie.Need-returns-3
 returns-3 c =
+    let clean = c .before .before .before in
+    let tested = clean .before in
     c .all-zero2 .ensures
-    ∙ around-rest _ _ _ (c .before .before .before .before .before .if1 .left)
-    (sym (not-false _ (c .before .before .before .if2 .left)) ∙ c .before .before .before .before .all-zero .ensures)
+    ∙ around-rest _ _ _ (tested .before .if1 .left)
+    (sym (not-false _ (clean .if2 .left)) ∙ tested .all-zero .ensures)
 
 pub is-zero-around-spec : {M : Type 1} → statement M
 is-zero-around-spec =

@@ -17,21 +17,24 @@ same-length c = search needs
 
 returns : tie.Need-returns
 returns c =
-    let m = c .before .before .before .before .mark-headers in
-    (stopped-short tuple _ _ _ _ (m .ensures) _ (c .if1 .taken), left-heap tuple _ _ _ _ (m .ensures))
+    let marked = c .before .before .before .before in
+    let e = marked .mark-headers .ensures in
+    (stopped-short tuple _ _ _ _ e _ (c .if1 .taken), left-heap tuple _ _ _ _ e)
 
 all-are-values-requires : tie.Need-all-are-values-requires
 all-are-values-requires c κs =
-    let f = c .before .before .before .before .before .before .before .before .before .pre in
-    marked-fits tuple _ _ _ _ (c .before .before .before .before .before .mark-headers .ensures) (f .0) (f .1) (c .before .if1 .left)
+    let marked = c .before .before .before .before .before in
+    let f = marked .before .before .before .before .pre in
+    marked-fits tuple _ _ _ _ (marked .mark-headers .ensures) (f .0) (f .1) (c .before .if1 .left)
 
 same-length-2 : tie.Need-same-length-2
 same-length-2 c = search needs
 
 returns-2 : tie.Need-returns-2
 returns-2 c =
-    let m = c .before .before .before .before .before .before .mark-headers in
-    (stopped-free tuple _ _ _ _ (m .ensures) _ (c .before .before .if1 .left) _ (c .all-are-values .ensures), left-heap tuple _ _ _ _ (m .ensures))
+    let marked = c .before .before .before .before .before .before in
+    let e = marked .mark-headers .ensures in
+    (stopped-free tuple _ _ _ _ e _ (c .before .before .if1 .left) _ (c .all-are-values .ensures), left-heap tuple _ _ _ _ e)
 
 pub mark-and-test-spec : {M : Type 1} → statement M
 mark-and-test-spec =

@@ -18,7 +18,11 @@ first-of-requires-2 : tie.Need-first-of-requires-2
 first-of-requires-2 c κs = search needs
 
 returns : tie.Need-returns
-returns c = part-is _ (c .before .before .before .before .args .«record») _ _ _ (c .before .before .first-of .ensures) (c .before .other-half .ensures) (c .first-of2 .ensures)
+returns c =
+    let other = c .before in
+    let here = other .before in
+    part-is _ (here .before .before .args .«record») _ _ _
+    (here .first-of .ensures) (other .other-half .ensures) (c .first-of2 .ensures)
 
 pub part-of-spec : {M : Type 1} → statement M
 part-of-spec =

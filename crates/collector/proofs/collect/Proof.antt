@@ -2,7 +2,7 @@
 use mathlib.Core.Path.{_≡_, _∙_, sym}
 use mathlib.Core.Bool.{false}
 use Rattle.model.specs.Headers.{tuple}
-use Rattle.model.specs.Words.{lent}
+use Rattle.model.specs.Words.{State, lent}
 use Rattle.model.specs.Shape.{badShape}
 use Rattle.collector.proofs.CollectCases.{collect-shape, collect-damaged, collect-live}
 use borrow.Author.Needs.{needs}
@@ -14,9 +14,12 @@ use Rattle.checker.proofs.is_sound.Reads as is-sound-reads
 use Rattle.engine.proofs.collect_sound.Reads as collect-sound-reads
 use Rattle.words.proofs.shape.bad_shape.Reads as bad-shape-reads
 
--- past the first test the shape is good
-fair : (c : tie.Else1) → badShape (lent (c .before .before .before .before .args .heap .now) (c .before .before .before .before .args .roots .now) (c .before .before .before .before .args .«record»)) ≡ false
-fair c = sym (c .before .bad-shape .ensures) ∙ c .if1 .left
+-- what the call was lent
+abbrev start : tie.Start → State
+start c = lent (c .args .heap .now) (c .args .roots .now) (c .args .«record»)
+
+shape : (c : tie.Else1) → badShape (start (c .before .before .before .before)) ≡ false
+shape c = sym (c .before .bad-shape .ensures) ∙ c .if1 .left
 
 bad-shape-requires : tie.Need-bad-shape-requires
 bad-shape-requires c κs = search needs
@@ -29,8 +32,9 @@ is-sound-requires c κs = search needs
 
 collect-sound-requires : tie.Need-collect-sound-requires
 collect-sound-requires c κs =
-    let q = c .before .before .before .before .before .is-sound .ensures in
-    rw (q .1) (sym (q .0) ∙ c .before .before .if2 .taken)
+    let judged = c .before .before in
+    let q = judged .before .before .before .is-sound .ensures in
+    rw (q .1) (sym (q .0) ∙ judged .if2 .taken)
 
 same-length : tie.Need-same-length
 same-length c = search needs
@@ -40,8 +44,12 @@ same-length-2 c = search needs
 
 returns-2 : tie.Need-returns-2
 returns-2 c =
-    let q = c .before .before .before .before .before .before .before .before .before .before .before .is-sound .ensures in
-    rw (collect-live tuple _ (fair (c .before .before .before .before .before .before .before .before .before .before .before .before .before .before)) (sym (q .0) ∙ c .before .before .before .before .before .before .before .before .if2 .taken), ← (q .1)) (c .before .before .before .before .before .collect-sound .ensures)
+    let done = c .before .before .before .before .before in
+    let judged = done .before .before .before in
+    let asked = judged .before .before .before in
+    let q = asked .is-sound .ensures in
+    rw (collect-live tuple _ (shape (asked .before .before .before)) (sym (q .0) ∙ judged .if2 .taken), ← (q .1))
+    (done .collect-sound .ensures)
 
 same-length-3 : tie.Need-same-length-3
 same-length-3 c = search needs
@@ -51,8 +59,9 @@ same-length-4 c = search needs
 
 returns-3 : tie.Need-returns-3
 returns-3 c =
-    let q = c .before .before .before .is-sound .ensures in
-    rw (q .1) (sym (collect-damaged tuple _ (fair (c .before .before .before .before .before .before)) (sym (q .0) ∙ c .if2 .left)))
+    let asked = c .before .before .before in
+    let q = asked .is-sound .ensures in
+    rw (q .1) (sym (collect-damaged tuple _ (shape (asked .before .before .before)) (sym (q .0) ∙ c .if2 .left)))
 
 pub collect-spec : {M : Type 1} → statement M
 collect-spec =

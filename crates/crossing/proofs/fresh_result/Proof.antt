@@ -16,7 +16,13 @@ numbers-of-requires : tie.Need-numbers-of-requires
 numbers-of-requires c κs = search needs
 
 returns : tie.Need-returns
-returns c = rw (sym (c .before .before .before .told .ensures), eq-eqb (c .before .before .before .told .result .refusal) 0 (c .before .if1 .taken), sym (c .numbers-of .ensures))
+returns c =
+    let answered = c .before .before .before in
+    rw (
+      sym (answered .told .ensures),
+      eq-eqb (answered .told .result .refusal) 0 (c .before .if1 .taken),
+      sym (c .numbers-of .ensures),
+    )
 
 returns-2 : tie.Need-returns-2
 returns-2 c = rw (sym (c .before .before .told .ensures), ne-eqb _ 0 (c .if1 .left))

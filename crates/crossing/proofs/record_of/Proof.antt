@@ -17,7 +17,10 @@ returns-2 : tie.Need-returns-2
 returns-2 c = rw (c .if2 .taken)
 
 returns-3 : tie.Need-returns-3
-returns-3 c = rw (lt-ltb 1 (c .before .before .before .before .before .args .«record» .half) (omega (arith, c .if2 .left, c .before .before .if1 .left)))
+returns-3 c =
+    let other = c .before .before in
+    let s = other .before .before .before in
+    rw (lt-ltb 1 (s .args .«record» .half) (omega (arith, c .if2 .left, other .if1 .left)))
 
 pub record-of-spec : {M : Type 1} → statement M
 record-of-spec = tie.close (tie.spec cast-t3 returns returns-2 returns-3)

@@ -14,7 +14,11 @@ told-requires : tie.Need-told-requires
 told-requires c κs = search needs
 
 returns : tie.Need-returns
-returns c = ap (λ v. record { refusal = c .before .told .result .refusal; kind = c .before .told .result .holds; integer = v; count = c .before .told .result .value }) (toZ-ofZ w32 (c .before .told .result .integer) (record { sfits = c .struct-told .given .1 .1 .0 .1 })) ∙ ap seen (c .before .told .ensures)
+returns c =
+    let t = c .before .told in
+    let v = toZ-ofZ w32 (t .result .integer) (record { sfits = c .struct-told .given .1 .1 .0 .1 }) in
+    ap (λ v. record { refusal = t .result .refusal; kind = t .result .holds; integer = v; count = t .result .value }) v
+    ∙ ap seen (t .ensures)
 
 pub seen-spec : {M : Type 1} → statement M
 seen-spec = tie.close (tie.spec told-requires returns)

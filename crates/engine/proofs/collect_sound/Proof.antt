@@ -12,7 +12,9 @@ use Rattle.words.proofs.shape.first_of.Reads as first-of-reads
 use Rattle.words.proofs.shape.other_half.Reads as other-half-reads
 
 sub-words : tie.Need-sub-words
-sub-words c = let a = shape _ tuple-lawful _ (c .before .before .pre) in omega (arith, a .odd)
+sub-words c =
+    let a = shape _ tuple-lawful _ (c .before .before .pre) in
+    omega (arith, a .odd)
 
 other-half-requires : tie.Need-other-half-requires
 other-half-requires c κs = search needs
@@ -24,16 +26,39 @@ first-of-requires-2 : tie.Need-first-of-requires-2
 first-of-requires-2 c κs = shape _ tuple-lawful _ (c .before .before .before .before .pre) .small
 
 sub-used : tie.Need-sub-used
-sub-used c = omega (arith, shape _ tuple-lawful _ (c .before .before .before .before .before .before .before .pre) .low, c .before .before .before .first-of .ensures)
+sub-used c =
+    let first = c .before .before .before in
+    let a = shape _ tuple-lawful _ (first .before .before .before .before .pre) in
+    omega (arith, a .low, first .first-of .ensures)
 
 evacuate-requires : tie.Need-evacuate-requires
-evacuate-requires c κs = may-evacuate _ tuple-lawful _ (c .before .before .before .before .before .before .before .before .before .pre) _ _ _ (c .before .before .before .before .before .before .other-half .ensures) (c .before .before .before .before .before .first-of .ensures) (c .before .before .before .before .first-of2 .ensures)
+evacuate-requires c κs =
+    let there = c .before .before .before .before in
+    let here = there .before in
+    let other = here .before in
+    may-evacuate _ tuple-lawful _ (other .before .before .before .pre) _ _ _
+    (other .other-half .ensures) (here .first-of .ensures) (there .first-of2 .ensures)
 
 sub-live : tie.Need-sub-live
-sub-live c = end-low _ tuple-lawful _ (c .before .before .before .before .before .before .before .before .before .before .before .before .before .before .before .before .pre) _ _ _ (c .before .before .before .before .before .before .before .before .before .before .before .before .before .other-half .ensures) (c .before .before .before .before .before .before .before .before .before .before .before .before .first-of .ensures) (c .before .before .before .before .before .before .before .before .before .before .before .first-of2 .ensures) _ _ _ (c .before .before .before .before .before .before .evacuate .ensures)
+sub-live c =
+    let done = c .before .before .before .before .before .before in
+    let there = done .before .before .before .before .before in
+    let here = there .before in
+    let other = here .before in
+    end-low _ tuple-lawful _ (other .before .before .before .pre) _ _ _
+    (other .other-half .ensures) (here .first-of .ensures) (there .first-of2 .ensures) _ _ _ (done .evacuate .ensures)
 
 cast-live : tie.Need-cast-live
-cast-live c = omega (arith, end-high _ tuple-lawful _ (c .before .before .before .before .before .before .before .before .before .before .before .before .before .before .before .before .pre) _ _ _ (c .before .before .before .before .before .before .before .before .before .before .before .before .before .other-half .ensures) (c .before .before .before .before .before .before .before .before .before .before .before .before .first-of .ensures) (c .before .before .before .before .before .before .before .before .before .before .before .first-of2 .ensures) _ _ _ (c .before .before .before .before .before .before .evacuate .ensures))
+cast-live c =
+    let done = c .before .before .before .before .before .before in
+    let there = done .before .before .before .before .before in
+    let here = there .before in
+    let other = here .before in
+    omega (
+      arith,
+      end-high _ tuple-lawful _ (other .before .before .before .pre) _ _ _
+          (other .other-half .ensures) (here .first-of .ensures) (there .first-of2 .ensures) _ _ _ (done .evacuate .ensures),
+    )
 
 same-length : tie.Need-same-length
 same-length c = search needs
@@ -42,7 +67,13 @@ same-length-2 : tie.Need-same-length-2
 same-length-2 c = search needs
 
 returns : tie.Need-returns
-returns c = collect-is _ tuple-lawful _ (c .before .before .before .before .before .before .before .before .before .before .before .before .before .before .before .before .pre) _ _ _ (c .before .before .before .before .before .before .before .before .before .before .before .before .before .other-half .ensures) (c .before .before .before .before .before .before .before .before .before .before .before .before .first-of .ensures) (c .before .before .before .before .before .before .before .before .before .before .before .first-of2 .ensures) _ _ _ (c .before .before .before .before .before .before .evacuate .ensures)
+returns c =
+    let done = c .before .before .before .before .before .before in
+    let there = done .before .before .before .before .before in
+    let here = there .before in
+    let other = here .before in
+    collect-is _ tuple-lawful _ (other .before .before .before .pre) _ _ _
+    (other .other-half .ensures) (here .first-of .ensures) (there .first-of2 .ensures) _ _ _ (done .evacuate .ensures)
 
 pub collect-sound-spec : {M : Type 1} → statement M
 collect-sound-spec =

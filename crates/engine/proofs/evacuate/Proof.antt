@@ -13,7 +13,10 @@ visit-roots-requires : tie.Need-visit-roots-requires
 visit-roots-requires c κs = search needs
 
 pass-objects-requires : tie.Need-pass-objects-requires
-pass-objects-requires c κs = scan-safe _ _ _ _ _ _ _ _ _ (c .before .before .before .before .before .visit-roots .ensures) (c .before .before .before .before .before .before .before .before .before .before .pre)
+pass-objects-requires c κs =
+    let visited = c .before .before .before .before .before in
+    let s = visited .before .before .before .before .before in
+    scan-safe _ _ _ _ _ _ _ _ _ (visited .visit-roots .ensures) (s .pre)
 
 clear-requires : tie.Need-clear-requires
 clear-requires c κs = search needs
@@ -25,7 +28,11 @@ same-length-2 : tie.Need-same-length-2
 same-length-2 c = search needs
 
 returns : tie.Need-returns
-returns c = evacuated-is _ _ _ _ _ _ _ _ _ (c .before .before .before .before .before .before .before .before .before .before .before .before .visit-roots .ensures) _ _ _ (c .before .before .before .before .before .before .pass-objects .ensures) (c .before .before .clear .ensures)
+returns c =
+    let cleared = c .before .before in
+    let passed = cleared .before .before .before .before in
+    let visited = passed .before .before .before .before .before .before in
+    evacuated-is _ _ _ _ _ _ _ _ _ (visited .visit-roots .ensures) _ _ _ (passed .pass-objects .ensures) (cleared .clear .ensures)
 
 pub evacuate-spec : {M : Type 1} → statement M
 evacuate-spec =

@@ -17,7 +17,9 @@ use Rattle.marks.proofs.is_value.Reads as is-value-reads
 
 abbrev Inv-loop : tie.InvT-loop
 Inv-loop slice from n heap part i₀ i =
-    (i ≤ n) × (all (isValueByMarks tuple heap part) (run slice (from + i) (n - i)) ≡ all (isValueByMarks tuple heap part) (run slice from n))
+    (i ≤ n)
+    × (all (isValueByMarks tuple heap part) (run slice (from + i) (n - i))
+    ≡ all (isValueByMarks tuple heap part) (run slice from n))
 
 abbrev μ-loop : tie.MeasureT-loop
 μ-loop slice from n heap part i₀ i = n - i
@@ -39,11 +41,12 @@ is-value-requires c κs = c .before .before .before .before .before .pre .1
 
 returns : tie.Need-returns Inv-loop μ-loop
 returns c =
-    let l = c .before .before .before .before .loop in
-    let a = c .before .before .before .before .before .before .before .args in
-    sym
-    (sym (l .inv .1)
-    ∙ run-failed (isValueByMarks tuple (a .heap .now) (a .part)) (a .slice .now) (a .from) (a .n) (l .i) (omega arith) (omega arith) (sym (c .before .is-value .ensures) ∙ not-true _ (c .if1 .taken)))
+    let turn = c .before .before .before .before in
+    let l = turn .loop in
+    let a = turn .before .before .before .args in
+    let q = isValueByMarks tuple (a .heap .now) (a .part) in
+    let h = sym (c .before .is-value .ensures) ∙ not-true _ (c .if1 .taken) in
+    sym (sym (l .inv .1) ∙ run-failed q (a .slice .now) (a .from) (a .n) (l .i) (omega arith) (omega arith) h)
 
 add-i : tie.Need-add-i Inv-loop μ-loop
 add-i c = omega arith
@@ -53,18 +56,22 @@ loop-less c = omega arith
 
 loop-again : tie.Need-loop-again Inv-loop μ-loop
 loop-again c =
-    let l = c .before .before .before .before .loop in
-    let a = c .before .before .before .before .before .before .before .args in (
+    let turn = c .before .before .before .before in
+    let l = turn .loop in
+    let a = turn .before .before .before .args in
+    let q = isValueByMarks tuple (a .heap .now) (a .part) in
+    let h = sym (c .before .is-value .ensures) ∙ not-false _ (c .if1 .left) in (
       omega arith,
-      run-passed (isValueByMarks tuple (a .heap .now) (a .part)) (a .slice .now) (a .from) (a .n) (l .i) (omega arith) (omega arith) (sym (c .before .is-value .ensures) ∙ not-false _ (c .if1 .left))
-          ∙ l .inv .1,
+      run-passed q (a .slice .now) (a .from) (a .n) (l .i) (omega arith) (omega arith) h ∙ l .inv .1,
     )
 
 returns-2 : tie.Need-returns-2 Inv-loop μ-loop
 returns-2 c =
-    let l = c .before .loop in
-    let a = c .before .before .before .before .args in
-    sym (sym (l .inv .1) ∙ run-ended (isValueByMarks tuple (a .heap .now) (a .part)) (a .slice .now) (a .from) (a .n) (l .i) (omega arith))
+    let turn = c .before in
+    let l = turn .loop in
+    let a = turn .before .before .before .args in
+    let q = isValueByMarks tuple (a .heap .now) (a .part) in
+    sym (sym (l .inv .1) ∙ run-ended q (a .slice .now) (a .from) (a .n) (l .i) (omega arith))
 
 pub are-values-spec : {M : Type 1} → statement M
 are-values-spec =

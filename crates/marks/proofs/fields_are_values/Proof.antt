@@ -31,8 +31,12 @@ are-values-requires c κs = search needs
 
 returns : tie.Need-returns
 returns c =
-    let a = c .before .before .before .before .before .before .args in
-    fields-traced tuple (a .heap .now) (a .part) (a .object .0) (sym (c .before .before .before .is-traced .ensures) ∙ c .before .before .if1 .taken) _ (c .before .count-of .ensures .0) _ (c .are-values .ensures)
+    let counted = c .before in
+    let traced = counted .before in
+    let tested = traced .before in
+    let a = tested .before .before .before .args in
+    fields-traced tuple (a .heap .now) (a .part) (a .object .0)
+    (sym (tested .is-traced .ensures) ∙ traced .if1 .taken) _ (counted .count-of .ensures .0) _ (c .are-values .ensures)
 
 returns-2 : tie.Need-returns-2
 returns-2 c = sym (fields-untraced tuple _ _ _ (sym (c .before .is-traced .ensures) ∙ c .if1 .left))

@@ -23,12 +23,20 @@ index-of-requires c κs = search needs
 
 returns-4 : tie.Need-returns-4
 returns-4 c =
-    sym (value-low _ _ _ _ (omega arith) (c .before .before .before .if2 .left) _ (c .before .index-of .ensures) (c .before .before .if3 .left) (c .if4 .taken))
+    let indexed = c .before in
+    let aligned = indexed .before in
+    sym
+    (value-low _ _ _ _ (omega arith) (aligned .before .if2 .left) _ (indexed .index-of .ensures)
+    (aligned .if3 .left) (c .if4 .taken))
 
 returns-5 : tie.Need-returns-5
 returns-5 c =
-    sym (value-high _ _ _ _ (omega arith) (c .before .before .before .before .before .if2 .left) _ (c .before .before .before .index-of .ensures)
-    (c .before .before .before .before .if3 .left) (c .before .before .if4 .left) (c .if5 .taken))
+    let past = c .before .before in
+    let indexed = past .before in
+    let aligned = indexed .before in
+    sym
+    (value-high _ _ _ _ (omega arith) (aligned .before .if2 .left) _ (indexed .index-of .ensures)
+    (aligned .if3 .left) (past .if4 .left) (c .if5 .taken))
 
 add-result : tie.Need-add-result
 add-result c = search needs
@@ -41,8 +49,13 @@ shared-slice-read-result c = search needs
 
 returns-6 : tie.Need-returns-6
 returns-6 c =
-    sym (value-marked _ _ _ _ (omega arith) (c .before .before .before .before .before .before .if2 .left) _ (c .before .before .before .before .index-of .ensures)
-    (c .before .before .before .before .before .if3 .left) (c .before .before .before .if4 .left) (c .before .if5 .left))
+    let below = c .before in
+    let past = below .before .before in
+    let indexed = past .before in
+    let aligned = indexed .before in
+    sym
+    (value-marked _ _ _ _ (omega arith) (aligned .before .if2 .left) _ (indexed .index-of .ensures)
+    (aligned .if3 .left) (past .if4 .left) (below .if5 .left))
 
 pub is-value-spec : {M : Type 1} → statement M
 is-value-spec =

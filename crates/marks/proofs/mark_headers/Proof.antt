@@ -16,7 +16,9 @@ use Rattle.words.proofs.tuple.Tuple.is_header.Reads as is-header-reads
 
 abbrev Inv-loop : tie.InvT-loop
 Inv-loop heap₀ first free marks at₀ heap at =
-    (markHeaders tuple (free - at) heap (part first free marks) at ≡ marked tuple heap₀ (part first free marks)) × (first ≤ at) × (length heap ≡ length heap₀)
+    (markHeaders tuple (free - at) heap (part first free marks) at ≡ marked tuple heap₀ (part first free marks))
+    × (first ≤ at)
+    × (length heap ≡ length heap₀)
 
 abbrev μ-loop : tie.MeasureT-loop
 μ-loop heap₀ first free marks at₀ heap at = free - at
@@ -38,10 +40,11 @@ same-length c = c .before .before .before .before .loop .inv .2
 
 returns : tie.Need-returns Inv-loop μ-loop
 returns c =
-    let l = c .before .before .before .before .loop in
-    let p = c .before .before .before .before .before .before .args .part in
-    sym (mark-stopped tuple p _ (l .heap) (l .at) (c .before .before .before .loop-test .taken) (sym (c .before .is-header .ensures) ∙ not-true _ (c .if1 .taken)))
-    ∙ l .inv .0
+    let more = c .before .before .before in
+    let l = more .before .loop in
+    let p = more .before .before .before .args .part in
+    let h = sym (c .before .is-header .ensures) ∙ not-true _ (c .if1 .taken) in
+    sym (mark-stopped tuple p _ (l .heap) (l .at) (more .loop-test .taken) h) ∙ l .inv .0
 
 sub-heap : tie.Need-sub-heap Inv-loop μ-loop
 sub-heap c = omega arith
@@ -69,11 +72,12 @@ loop-less c = omega arith
 
 loop-again : tie.Need-loop-again Inv-loop μ-loop
 loop-again c =
-    let l = c .before .before .before .before .before .loop in
-    let p = c .before .before .before .before .before .before .before .args .part in
-    let m = c .before .before .before .before .loop-test .taken in (
-      mark-turn tuple p (l .heap) (l .at) m (sym (c .before .before .is-header .ensures) ∙ not-false _ (c .before .if1 .left)) _ (c .count-of .ensures .0)
-          ∙ l .inv .0,
+    let headed = c .before in
+    let more = headed .before .before .before in
+    let l = more .before .loop in
+    let p = more .before .before .before .args .part in
+    let h = sym (headed .before .is-header .ensures) ∙ not-false _ (headed .if1 .left) in (
+      mark-turn tuple p (l .heap) (l .at) (more .loop-test .taken) h _ (c .count-of .ensures .0) ∙ l .inv .0,
       omega arith,
       simp length-set (l .inv .2),
     )
@@ -82,7 +86,9 @@ same-length-2 : tie.Need-same-length-2 Inv-loop μ-loop
 same-length-2 c = c .before .loop .inv .2
 
 returns-2 : tie.Need-returns-2 Inv-loop μ-loop
-returns-2 c = sym (mark-ended tuple (c .before .before .before .args .part) _ _ _ (c .loop-test .left)) ∙ c .before .loop .inv .0
+returns-2 c =
+    let turn = c .before in
+    sym (mark-ended tuple (turn .before .before .args .part) _ _ _ (c .loop-test .left)) ∙ turn .loop .inv .0
 
 pub mark-headers-spec : {M : Type 1} → statement M
 mark-headers-spec =

@@ -32,7 +32,11 @@ mul-heap : tie.Need-mul-heap
 mul-heap c = search needs
 
 slice-write-heap : tie.Need-slice-write-heap
-slice-write-heap c = omega (arith, c .before .before .before .before .before .pre .fits (sym (c .before .before .is-header .ensures) ∙ c .before .if1 .taken))
+slice-write-heap c =
+    let headed = c .before in
+    let tested = headed .before in
+    let s = tested .before .before .before in
+    omega (arith, s .pre .fits (sym (tested .is-header .ensures) ∙ headed .if1 .taken))
 
 add-copy : tie.Need-add-copy
 add-copy c = search needs
@@ -42,8 +46,12 @@ add-copy-2 c = search needs
 
 copy-requires : tie.Need-copy-requires
 copy-requires c κs =
-    let head = sym (c .before .before .before .is-header .ensures) ∙ c .before .before .if1 .taken in
-    simp length-set (omega (arith, c .before .before .before .before .before .before .pre .whole head, c .before .before .before .before .before .before .pre .fits head, c .before .count-of .ensures .0))
+    let counted = c .before in
+    let headed = counted .before in
+    let tested = headed .before in
+    let s = tested .before .before .before in
+    let head = sym (tested .is-header .ensures) ∙ headed .if1 .taken in
+    simp length-set (omega (arith, s .pre .whole head, s .pre .fits head, counted .count-of .ensures .0))
 
 address-of-requires : tie.Need-address-of-requires
 address-of-requires c κs = search needs
@@ -65,13 +73,20 @@ add-end-2 c = search needs
 
 same-length : tie.Need-same-length
 same-length c =
-    let s = c .before .before .before .before .before .before .before .before .before .before .before in
-    copied-same tuple (s .args .heap .now) (s .args .object .0) (s .args .free .0) _ _ _ _ (c .before .before .before .before .copy .ensures)
+    let copied = c .before .before .before .before in
+    let s = copied .before .before .before .before .before .before .before in
+    copied-same tuple (s .args .heap .now) (s .args .object .0) (s .args .free .0) _ _ _ _ (copied .copy .ensures)
 
 returns : tie.Need-returns
 returns c =
-    let s = c .before .before .before .before .before .before .before .before .before .before .before in
-    copied-is tuple (s .args .heap .now) (s .args .object .0) (s .args .free .0) _ _ _ _ (sym (c .before .before .before .before .before .before .before .before .is-header .ensures) ∙ c .before .before .before .before .before .before .before .if1 .taken) (c .before .before .before .before .before .before .count-of .ensures .0) (c .before .before .before .before .copy .ensures) (c .before .address-of .ensures) (c .mark .ensures)
+    let copied = c .before .before .before .before in
+    let counted = copied .before .before in
+    let headed = counted .before in
+    let tested = headed .before in
+    let s = tested .before .before .before in
+    copied-is tuple (s .args .heap .now) (s .args .object .0) (s .args .free .0) _ _ _ _
+    (sym (tested .is-header .ensures) ∙ headed .if1 .taken)
+    (counted .count-of .ensures .0) (copied .copy .ensures) (c .before .address-of .ensures) (c .mark .ensures)
 
 unmark-requires : tie.Need-unmark-requires
 unmark-requires c κs = sym (c .before .is-header .ensures) ∙ c .if1 .left

@@ -17,14 +17,25 @@ index-of-requires : tie.Need-index-of-requires
 index-of-requires c κs = search needs
 
 relocate-requires : tie.Need-relocate-requires
-relocate-requires c κs = rw (c .index-of .ensures) (c .before .before .before .before .before .pre (sym (c .before .before .before .is-address .ensures) ∙ c .before .before .if1 .taken))
+relocate-requires c κs =
+    let tested = c .before .before .before in
+    let s = tested .before .before in
+    rw (c .index-of .ensures) (s .pre (sym (tested .is-address .ensures) ∙ c .before .before .if1 .taken))
 
 same-length : tie.Need-same-length
 same-length c = search needs
 
 returns : tie.Need-returns
 returns c =
-    rw (renamed-address _ _ _ _ (sym (c .before .before .before .before .before .before .before .is-address .ensures) ∙ c .before .before .before .before .before .before .if1 .taken), ← (c .before .before .before .before .index-of .ensures)) (c .before .before .before .relocate .ensures)
+    let moved = c .before .before .before in
+    let indexed = moved .before in
+    let address = indexed .before .before in
+    let tested = address .before in
+    rw (
+      renamed-address _ _ _ _ (sym (tested .is-address .ensures) ∙ address .if1 .taken),
+      ← (indexed .index-of .ensures),
+    )
+    (moved .relocate .ensures)
 
 returns-2 : tie.Need-returns-2
 returns-2 c = sym (renamed-plain _ _ _ _ (sym (c .before .is-address .ensures) ∙ c .if1 .left))

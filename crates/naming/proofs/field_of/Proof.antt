@@ -2,11 +2,13 @@
 use borrow.Author.Tests.{le-leb, lt-leb, not-false}
 use Prim.Native.Nat.{ℕ}
 use native.Mathlib.Omega.{arith}
-use mathlib.Core.Path.{refl, sym, ap, _∙_}
+use mathlib.Core.Path.{_≡_, refl, sym, ap, _∙_}
 use lib.Dec.{leb}
-use mathlib.Core.Bool.{not}
-use mathlib.Core.List.{[]}
-use Rattle.model.specs.Words.{lent}
+use mathlib.Core.Bool.{false, not}
+use mathlib.Core.List.{List, []}
+use Rattle.model.specs.Words.{State, lent}
+use Rattle.model.specs.Headers.{tuple}
+use Rattle.model.specs.Objects.{names}
 use Rattle.naming.proofs.NamedObjects.{header-in, field-tests}
 use borrow.Author.Needs.{needs}
 use Rattle.naming.proofs.field_of.Statement.{statement}
@@ -18,11 +20,20 @@ use Rattle.naming.proofs.names.Reads as names-reads
 use Rattle.words.proofs.tuple.Tuple.count_of.Reads as count-of-reads
 use Rattle.words.proofs.tuple.Tuple.index_of.Reads as index-of-reads
 
+-- what the call was lent, with any roots
+abbrev start : tie.Start → List ℕ → State
+start c R = lent (c .args .heap .now) R (c .args .«record»)
+
+named : (c : tie.Else1) (R : List ℕ) → let s = c .before .before .before in not (names tuple (start s R) (s .args .word)) ≡ false
+named c R = ap not (sym (c .before .names .ensures R)) ∙ c .if1 .left
+
 names-requires : tie.Need-names-requires
 names-requires c κs = search needs
 
 returns : tie.Need-returns
-returns c = λ R. field-tests _ _ _ _ _ (lent (c .before .before .before .args .heap .now) R (c .before .before .before .args .«record»)) refl (ap not (sym (c .before .names .ensures R)) ∙ c .if1 .taken) refl refl
+returns c = λ R.
+    field-tests _ _ _ _ _ (start (c .before .before .before) R) refl
+    (ap not (sym (c .before .names .ensures R)) ∙ c .if1 .taken) refl refl
 
 index-of-requires : tie.Need-index-of-requires
 index-of-requires c κs = search needs
@@ -31,19 +42,35 @@ mul-header : tie.Need-mul-header
 mul-header c = search needs
 
 shared-slice-read-header : tie.Need-shared-slice-read-header
-shared-slice-read-header c = rw (c .before .index-of .ensures) (header-in _ _ [] _ _ (c .before .before .before .before .before .pre) (sym (c .before .before .before .names .ensures []) ∙ not-false _ (c .before .before .if1 .left)))
+shared-slice-read-header c =
+    let found = c .before .before in
+    rw (c .before .index-of .ensures)
+    (header-in _ _ [] _ _ (found .before .before .before .pre) (not-false _ (named found [])))
 
 is-of-kind-requires : tie.Need-is-of-kind-requires
 is-of-kind-requires c κs = search needs
 
 returns-2 : tie.Need-returns-2
-returns-2 c = λ R. field-tests _ _ _ _ _ (lent (c .before .before .before .before .before .before .before .args .heap .now) R (c .before .before .before .before .before .before .before .args .«record»)) (c .before .before .before .index-of .ensures) (ap not (sym (c .before .before .before .before .before .names .ensures R)) ∙ c .before .before .before .before .if1 .left) (ap not (sym (c .before .is-of-kind .ensures)) ∙ c .if2 .taken) refl
+returns-2 c = λ R.
+    let indexed = c .before .before .before in
+    let found = indexed .before in
+    field-tests _ _ _ _ _ (start (found .before .before .before) R) (indexed .index-of .ensures) (named found R)
+    (ap not (sym (c .before .is-of-kind .ensures)) ∙ c .if2 .taken) refl
 
 count-of-requires : tie.Need-count-of-requires
 count-of-requires c κs = search needs
 
 returns-3 : tie.Need-returns-3
-returns-3 c = λ R. field-tests _ _ _ _ _ (lent (c .before .before .before .before .before .before .before .before .before .args .heap .now) R (c .before .before .before .before .before .before .before .before .before .args .«record»)) (c .before .before .before .before .before .index-of .ensures) (ap not (sym (c .before .before .before .before .before .before .before .names .ensures R)) ∙ c .before .before .before .before .before .before .if1 .left) (ap not (sym (c .before .before .before .is-of-kind .ensures)) ∙ c .before .before .if2 .left) (ap (λ (n : ℕ). leb n (c .before .before .before .before .before .before .before .before .before .args .field)) (sym (c .before .count-of .ensures .0)) ∙ le-leb (c .before .count-of .result) (c .before .before .before .before .before .before .before .before .before .args .field) (omega arith))
+returns-3 c = λ R.
+    let counted = c .before in
+    let kept = counted .before in
+    let indexed = kept .before .before .before in
+    let found = indexed .before in
+    let s = found .before .before .before in
+    field-tests _ _ _ _ _ (start s R) (indexed .index-of .ensures) (named found R)
+    (ap not (sym (kept .before .is-of-kind .ensures)) ∙ kept .if2 .left)
+    (ap (λ (n : ℕ). leb n (s .args .field)) (sym (counted .count-of .ensures .0))
+    ∙ le-leb (counted .count-of .result) (s .args .field) (omega arith))
 
 add-t13 : tie.Need-add-t13
 add-t13 c = search needs
@@ -52,7 +79,15 @@ add-t18 : tie.Need-add-t18
 add-t18 c = search needs
 
 returns-4 : tie.Need-returns-4
-returns-4 c = λ R. field-tests _ _ _ _ _ (lent (c .before .before .before .before .before .before .before .before .before .args .heap .now) R (c .before .before .before .before .before .before .before .before .before .args .«record»)) (c .before .before .before .before .before .index-of .ensures) (ap not (sym (c .before .before .before .before .before .before .before .names .ensures R)) ∙ c .before .before .before .before .before .before .if1 .left) (ap not (sym (c .before .before .before .is-of-kind .ensures)) ∙ c .before .before .if2 .left) (ap (λ (n : ℕ). leb n (c .before .before .before .before .before .before .before .before .before .args .field)) (sym (c .before .count-of .ensures .0)) ∙ lt-leb _ _ (c .if3 .left))
+returns-4 c = λ R.
+    let counted = c .before in
+    let kept = counted .before in
+    let indexed = kept .before .before .before in
+    let found = indexed .before in
+    let s = found .before .before .before in
+    field-tests _ _ _ _ _ (start s R) (indexed .index-of .ensures) (named found R)
+    (ap not (sym (kept .before .is-of-kind .ensures)) ∙ kept .if2 .left)
+    (ap (λ (n : ℕ). leb n (s .args .field)) (sym (counted .count-of .ensures .0)) ∙ lt-leb _ _ (c .if3 .left))
 
 pub field-of-spec : {M : Type 1} → statement M
 field-of-spec =

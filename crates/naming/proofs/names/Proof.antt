@@ -1,9 +1,12 @@
 -- `naming::names` meets its contract, by one law of its six tests.
 use borrow.Author.Tests.{eq-eqb, ne-eqb, lt-ltb, le-ltb, le-leb, lt-leb, not-true, not-false}
 use Prim.Native.Nat.{ℕ, _+_}
-use mathlib.Core.Path.{refl, sym, ap, _∙_}
+use mathlib.Core.Path.{_≡_, refl, sym, ap, _∙_}
 use lib.Dec.{leb}
-use Rattle.model.specs.Words.{lent}
+use mathlib.Core.Bool.{true}
+use mathlib.Core.List.{List}
+use Rattle.model.specs.Words.{State, lent}
+use Rattle.model.specs.Values.{isAddress}
 use Rattle.naming.proofs.NamedObjects.{names-tests}
 use borrow.Author.Needs.{needs}
 use Rattle.naming.proofs.names.Statement.{statement}
@@ -16,14 +19,25 @@ use Rattle.words.proofs.tuple.Tuple.index_of.Reads as index-of-reads
 use Rattle.words.proofs.tuple.Tuple.is_header.Reads as is-header-reads
 use Rattle.words.proofs.tuple.is_address.Reads as is-address-reads
 
+-- what the call was lent, with any roots
+abbrev start : tie.Start → List ℕ → State
+start c R = lent (c .args .heap .now) R (c .args .«record»)
+
+address : (c : tie.Else1) → isAddress (c .before .before .before .args .word) ≡ true
+address c = sym (c .before .is-address .ensures) ∙ not-false _ (c .if1 .left)
+
 is-address-requires : tie.Need-is-address-requires
 is-address-requires c κs = search needs
 
 returns : tie.Need-returns
-returns c = λ R. names-tests _ (lent (c .before .before .before .args .heap .now) R (c .before .before .before .args .«record»)) _ _ _ refl refl (sym (c .before .is-address .ensures) ∙ not-true _ (c .if1 .taken)) refl refl refl refl refl
+returns c = λ R.
+    names-tests _ (start (c .before .before .before) R) _ _ _ refl refl
+    (sym (c .before .is-address .ensures) ∙ not-true _ (c .if1 .taken)) refl refl refl refl refl
 
 returns-2 : tie.Need-returns-2
-returns-2 c = λ R. names-tests _ (lent (c .before .before .before .before .args .heap .now) R (c .before .before .before .before .args .«record»)) _ _ _ refl refl (sym (c .before .before .is-address .ensures) ∙ not-false _ (c .before .if1 .left)) (ne-eqb _ _ (c .if2 .taken)) refl refl refl refl
+returns-2 c = λ R.
+    names-tests _ (start (c .before .before .before .before) R) _ _ _ refl refl
+    (address (c .before)) (ne-eqb _ _ (c .if2 .taken)) refl refl refl refl
 
 sub-first-of : tie.Need-sub-first-of
 sub-first-of c = search needs
@@ -35,10 +49,24 @@ index-of-requires : tie.Need-index-of-requires
 index-of-requires c κs = search needs
 
 returns-3 : tie.Need-returns-3
-returns-3 c = λ R. names-tests _ (lent (c .before .before .before .before .before .before .before .args .heap .now) R (c .before .before .before .before .before .before .before .args .«record»)) _ _ _ (c .before .index-of .ensures) (c .before .before .first-of .ensures) (sym (c .before .before .before .before .before .is-address .ensures) ∙ not-false _ (c .before .before .before .before .if1 .left)) (eq-eqb _ _ (c .before .before .before .if2 .left)) (lt-leb _ _ (c .if3 .taken)) refl refl refl
+returns-3 c = λ R.
+    let indexed = c .before in
+    let based = indexed .before in
+    let aligned = based .before in
+    names-tests _ (start (aligned .before .before .before .before) R) _ _ _
+    (indexed .index-of .ensures) (based .first-of .ensures)
+    (address (aligned .before)) (eq-eqb _ _ (aligned .if2 .left)) (lt-leb _ _ (c .if3 .taken)) refl refl refl
 
 returns-4 : tie.Need-returns-4
-returns-4 c = λ R. names-tests _ (lent (c .before .before .before .before .before .before .before .before .args .heap .now) R (c .before .before .before .before .before .before .before .before .args .«record»)) _ _ _ (c .before .before .index-of .ensures) (c .before .before .before .first-of .ensures) (sym (c .before .before .before .before .before .before .is-address .ensures) ∙ not-false _ (c .before .before .before .before .before .if1 .left)) (eq-eqb _ _ (c .before .before .before .before .if2 .left)) (le-leb _ _ (c .before .if3 .left)) (le-ltb _ _ (c .if4 .taken)) refl refl
+returns-4 c = λ R.
+    let past = c .before in
+    let indexed = past .before in
+    let based = indexed .before in
+    let aligned = based .before in
+    names-tests _ (start (aligned .before .before .before .before) R) _ _ _
+    (indexed .index-of .ensures) (based .first-of .ensures)
+    (address (aligned .before)) (eq-eqb _ _ (aligned .if2 .left)) (le-leb _ _ (past .if3 .left))
+    (le-ltb _ _ (c .if4 .taken)) refl refl
 
 mul-header : tie.Need-mul-header
 mul-header c = search needs
@@ -50,7 +78,17 @@ is-header-requires : tie.Need-is-header-requires
 is-header-requires c κs = search needs
 
 returns-5 : tie.Need-returns-5
-returns-5 c = λ R. names-tests _ (lent (c .before .before .before .before .before .before .before .before .before .before .before .args .heap .now) R (c .before .before .before .before .before .before .before .before .before .before .before .args .«record»)) _ _ _ (c .before .before .before .before .before .index-of .ensures) (c .before .before .before .before .before .before .first-of .ensures) (sym (c .before .before .before .before .before .before .before .before .before .is-address .ensures) ∙ not-false _ (c .before .before .before .before .before .before .before .before .if1 .left)) (eq-eqb _ _ (c .before .before .before .before .before .before .before .if2 .left)) (le-leb _ _ (c .before .before .before .before .if3 .left)) (lt-ltb _ _ (c .before .before .before .if4 .left)) (sym (c .before .is-header .ensures) ∙ not-true _ (c .if5 .taken)) refl
+returns-5 c = λ R.
+    let tested = c .before in
+    let below = tested .before .before in
+    let past = below .before in
+    let indexed = past .before in
+    let based = indexed .before in
+    let aligned = based .before in
+    names-tests _ (start (aligned .before .before .before .before) R) _ _ _
+    (indexed .index-of .ensures) (based .first-of .ensures)
+    (address (aligned .before)) (eq-eqb _ _ (aligned .if2 .left)) (le-leb _ _ (past .if3 .left))
+    (lt-ltb _ _ (below .if4 .left)) (sym (tested .is-header .ensures) ∙ not-true _ (c .if5 .taken)) refl
 
 count-of-requires : tie.Need-count-of-requires
 count-of-requires c κs = search needs
@@ -62,7 +100,20 @@ add-result-2 : tie.Need-add-result-2
 add-result-2 c = search needs
 
 returns-6 : tie.Need-returns-6
-returns-6 c = λ R. names-tests _ (lent (c .before .before .before .before .before .before .before .before .before .before .before .before .args .heap .now) R (c .before .before .before .before .before .before .before .before .before .before .before .before .args .«record»)) _ _ _ (c .before .before .before .before .before .before .index-of .ensures) (c .before .before .before .before .before .before .before .first-of .ensures) (sym (c .before .before .before .before .before .before .before .before .before .before .is-address .ensures) ∙ not-false _ (c .before .before .before .before .before .before .before .before .before .if1 .left)) (eq-eqb _ _ (c .before .before .before .before .before .before .before .before .if2 .left)) (le-leb _ _ (c .before .before .before .before .before .if3 .left)) (lt-ltb _ _ (c .before .before .before .before .if4 .left)) (sym (c .before .before .is-header .ensures) ∙ not-false _ (c .before .if5 .left)) (ap (λ (n : ℕ). leb (c .before .before .before .before .before .before .index-of .result .0 + (n + 1)) (c .before .before .before .before .before .before .before .before .before .before .before .before .args .«record» .free .0)) (sym (c .count-of .ensures .0)))
+returns-6 c = λ R.
+    let headed = c .before in
+    let tested = headed .before in
+    let below = tested .before .before in
+    let past = below .before in
+    let indexed = past .before in
+    let based = indexed .before in
+    let aligned = based .before in
+    let s = aligned .before .before .before .before in
+    names-tests _ (start s R) _ _ _
+    (indexed .index-of .ensures) (based .first-of .ensures)
+    (address (aligned .before)) (eq-eqb _ _ (aligned .if2 .left)) (le-leb _ _ (past .if3 .left))
+    (lt-ltb _ _ (below .if4 .left)) (sym (tested .is-header .ensures) ∙ not-false _ (headed .if5 .left))
+    (ap (λ (n : ℕ). leb (indexed .index-of .result .0 + (n + 1)) (s .args .«record» .free .0)) (sym (c .count-of .ensures .0)))
 
 pub names-spec : {M : Type 1} → statement M
 names-spec =

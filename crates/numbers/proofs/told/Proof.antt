@@ -105,7 +105,10 @@ returns-7 : tie.Need-returns-7
 returns-7 c = rw (c .before .enum-told6 .given .1) (c .tells7 .ensures)
 
 returns-8 : tie.Need-returns-8
-returns-8 c = rw (c .before .before .answer2 .given .1) (c .integer .ensures ∙ ap (λ v. told (Says.Integer v)) (toZ-ofZ w32 (c .before .before .answer2 .given .0 .0) (record { sfits = c .before .known-told2 .given .0 .1 })))
+returns-8 c =
+    let answered = c .before .before in
+    let v = toZ-ofZ w32 (answered .answer2 .given .0 .0) (record { sfits = c .before .known-told2 .given .0 .1 }) in
+    rw (answered .answer2 .given .1) (c .integer .ensures ∙ ap (λ v. told (Says.Integer v)) v)
 
 returns-9 : tie.Need-returns-9
 returns-9 c = rw (c .before .before .answer3 .given .1) (c .object .ensures)

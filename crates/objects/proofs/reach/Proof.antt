@@ -1,8 +1,11 @@
 -- `objects::reach` meets its contract: SHAPE and ROOT test by test, the rest by `field_of`.
 use Prim.Native.Nat.{_<_}
-use mathlib.Core.Path.{sym, _∙_}
+use mathlib.Core.Path.{_≡_, sym, _∙_}
+use mathlib.Core.Bool.{false, _||_}
 use lib.ListN.{length}
 use Rattle.model.specs.Words.{State, lent}
+use Rattle.model.specs.Shape.{badShape}
+use Rattle.model.specs.Changes.{noRoot}
 use Rattle.objects.specs.Reached.{reached}
 use Rattle.access.proofs.RootNumbers.{both-below}
 use Rattle.naming.proofs.NamedObjects.{free-in-heap}
@@ -19,8 +22,16 @@ use Rattle.words.proofs.shape.bad_shape.Reads as bad-shape-reads
 abbrev start : tie.Start → State
 start c = lent (c .args .heap .now) (c .args .roots .now) (c .args .«record»)
 
-below : (c : tie.Else2) → c .before .before .before .before .before .before .args .object < length (c .before .before .before .before .before .before .args .roots .now)
-below c = both-below _ _ _ (sym (c .before .no-root .ensures) ∙ c .if2 .left) .0
+shape : (c : tie.Else1) → badShape (start (c .before .before .before .before)) ≡ false
+shape c = sym (c .before .bad-shape .ensures) ∙ c .if1 .left
+
+rooted : (c : tie.Else2) → let s = c .before .before .before .before .before .before in
+    (noRoot (start s) (s .args .object) || noRoot (start s) (s .args .other)) ≡ false
+rooted c = sym (c .before .no-root .ensures) ∙ c .if2 .left
+
+below : (c : tie.Else2) → let s = c .before .before .before .before .before .before in
+    s .args .object < length (s .args .roots .now)
+below c = both-below _ _ _ (rooted c) .0
 
 bad-shape-requires : tie.Need-bad-shape-requires
 bad-shape-requires c κs = search needs
@@ -34,7 +45,7 @@ no-root-requires c κs = search needs
 
 returns-2 : tie.Need-returns-2
 unfolding reached
-returns-2 c = simp (sym (c .before .before .before .bad-shape .ensures) ∙ c .before .before .if1 .left, sym (c .before .no-root .ensures) ∙ c .if2 .taken)
+returns-2 c = simp (shape (c .before .before), sym (c .before .no-root .ensures) ∙ c .if2 .taken)
 
 mul-field-of : tie.Need-mul-field-of
 mul-field-of c = let b = below c in search needs
@@ -43,11 +54,17 @@ shared-slice-read-field-of : tie.Need-shared-slice-read-field-of
 shared-slice-read-field-of c = below (c .before)
 
 field-of-requires : tie.Need-field-of-requires
-field-of-requires c κs = free-in-heap (start (c .before .before .before .before .before .before .before)) (sym (c .before .before .before .before .bad-shape .ensures) ∙ c .before .before .before .if1 .left)
+field-of-requires c κs =
+    let shaped = c .before .before .before in
+    free-in-heap (start (shaped .before .before .before .before)) (shape shaped)
 
 returns-3 : tie.Need-returns-3
 unfolding reached
-returns-3 c = simp (sym (c .before .before .before .before .before .bad-shape .ensures) ∙ c .before .before .before .before .if1 .left, sym (c .before .before .before .no-root .ensures) ∙ c .before .before .if2 .left) (c .field-of .ensures (c .before .before .before .before .before .before .before .before .args .roots .now))
+returns-3 c =
+    let found = c .before .before in
+    let shaped = found .before .before in
+    let s = shaped .before .before .before .before in
+    simp (shape shaped, rooted found) (c .field-of .ensures (s .args .roots .now))
 
 pub reach-spec : {M : Type 1} → statement M
 reach-spec =

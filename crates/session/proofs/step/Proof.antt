@@ -100,7 +100,9 @@ same-length-2 c = search needs
 
 returns : tie.Need-returns
 unfolding step
-returns c = rw (c .before .before .before .before .before .before .before .enum-told .given .1) (c .before .before .before .before .collect .ensures)
+returns c =
+    let called = c .before .before .before .before in
+    rw (called .before .before .before .enum-told .given .1) (called .collect .ensures)
 
 same-length-3 : tie.Need-same-length-3
 same-length-3 c = search needs
@@ -120,7 +122,9 @@ same-length-6 c = search needs
 
 returns-3 : tie.Need-returns-3
 unfolding step
-returns-3 c = rw (c .before .before .before .before .before .before .before .before .call .given .1) (c .before .before .before .before .allocate .ensures)
+returns-3 c =
+    let called = c .before .before .before .before in
+    rw (called .before .before .before .before .call .given .1) (called .allocate .ensures)
 
 same-length-7 : tie.Need-same-length-7
 same-length-7 c = search needs
@@ -131,8 +135,10 @@ same-length-8 c = search needs
 returns-4 : tie.Need-returns-4
 unfolding step
 returns-4 c =
-    let v = toZ-ofZ w64 (c .before .before .before .before .before .before .call2 .given .0 .1 .0) (record { sfits = c .before .before .before .before .before .known-told2 .given .1 .0 .1 }) in
-    rw (c .before .before .before .before .before .before .call2 .given .1) (rw v at (c .before .before .set-integer .ensures))
+    let called = c .before .before in
+    let asked = called .before .before .before .before in
+    let v = toZ-ofZ w64 (asked .call2 .given .0 .1 .0) (record { sfits = called .before .before .before .known-told2 .given .1 .0 .1 }) in
+    rw (asked .call2 .given .1) (rw v at (called .set-integer .ensures))
 
 same-length-9 : tie.Need-same-length-9
 same-length-9 c = search needs

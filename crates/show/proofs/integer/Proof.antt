@@ -10,10 +10,16 @@ use Rattle.io.proofs.print_decimal.Reads as print-decimal-reads
 use Rattle.show.proofs.text.Reads as text-reads
 
 sub-below : tie.Need-sub-below
-sub-below c = let f = c .before .fits .value in let b = negative _ f (c .if1 .taken) in rw (down _ f b) (record { sfits = b .small })
+sub-below c =
+    let f = c .before .fits .value in
+    let b = negative _ f (c .if1 .taken) in
+    rw (down _ f b) (record { sfits = b .small })
 
 cast-below : tie.Need-cast-below
-cast-below c = let f = c .before .fits .value in let b = negative _ f (c .if1 .taken) in rw (below-is _ f b) (tt, omega (arith, b .small))
+cast-below c =
+    let f = c .before .fits .value in
+    let b = negative _ f (c .if1 .taken) in
+    rw (below-is _ f b) (tt, omega (arith, b .small))
 
 slice-aggregate-text : tie.Need-slice-aggregate-text
 slice-aggregate-text c = search needs
@@ -22,7 +28,10 @@ text-requires : tie.Need-text-requires
 text-requires c κs = search needs
 
 add-print-decimal : tie.Need-add-print-decimal
-add-print-decimal c = let f = c .before .before .before .fits .value in let b = negative _ f (c .before .before .if1 .taken) in rw (below-is _ f b) (omega (arith, b .small))
+add-print-decimal c =
+    let f = c .before .before .before .fits .value in
+    let b = negative _ f (c .before .before .if1 .taken) in
+    rw (below-is _ f b) (omega (arith, b .small))
 
 print-decimal-requires : tie.Need-print-decimal-requires
 print-decimal-requires c κs = search needs
@@ -31,7 +40,10 @@ returns : tie.Need-returns
 returns c = search needs
 
 cast-print-decimal : tie.Need-cast-print-decimal
-cast-print-decimal c = let f = c .before .fits .value in let b = natural _ f (c .if1 .left) in rw (size-is _ f b) (tt, omega (arith, b .small))
+cast-print-decimal c =
+    let f = c .before .fits .value in
+    let b = natural _ f (c .if1 .left) in
+    rw (size-is _ f b) (tt, omega (arith, b .small))
 
 print-decimal-requires-2 : tie.Need-print-decimal-requires-2
 print-decimal-requires-2 c κs = search needs

@@ -16,7 +16,10 @@ returns : tie.Need-returns
 returns c = rw (c .before .before .place .given .1) (sym (word-from-count _ _ _ (omega (arith, c .if1 .taken))))
 
 returns-2 : tie.Need-returns-2
-returns-2 c = rw (c .before .before .before .place .given .1) (sym (word-past-end _ _ _ _ (omega (arith, c .before .if1 .left)) (omega (arith, c .if2 .taken))))
+returns-2 c =
+    let below = c .before in
+    rw (below .before .before .place .given .1)
+    (sym (word-past-end _ _ _ _ (omega (arith, below .if1 .left)) (omega (arith, c .if2 .taken))))
 
 sub-if3 : tie.Need-sub-if3
 sub-if3 c = search needs
@@ -25,7 +28,10 @@ sub-if3-2 : tie.Need-sub-if3-2
 sub-if3-2 c = search needs
 
 returns-3 : tie.Need-returns-3
-returns-3 c = rw (c .before .before .before .before .place .given .1) (sym (word-past-end _ _ _ _ (omega (arith, c .before .before .if1 .left)) (omega (arith, c .if3 .taken))))
+returns-3 c =
+    let below = c .before .before in
+    rw (below .before .before .place .given .1)
+    (sym (word-past-end _ _ _ _ (omega (arith, below .if1 .left)) (omega (arith, c .if3 .taken))))
 
 add-t11 : tie.Need-add-t11
 add-t11 c = search needs
@@ -43,7 +49,9 @@ enum-told : tie.Need-enum-told
 enum-told c = search needs
 
 returns-4 : tie.Need-returns-4
-returns-4 c = rw (c .before .before .before .before .before .place .given .1) (sym (word-below-count _ _ _ _ (omega (arith, c .before .before .before .if1 .left))))
+returns-4 c =
+    let below = c .before .before .before in
+    rw (below .before .before .place .given .1) (sym (word-below-count _ _ _ _ (omega (arith, below .if1 .left))))
 
 returns-5 : tie.Need-returns-5
 returns-5 c = rw (c .enum-told .given .1) (sym (word-from-count _ _ _ (omega arith)))

@@ -1,6 +1,6 @@
 -- `access::fresh::fresh` meets its contract: what `clear` leaves of all the words is zeros.
 use mathlib.Core.Path.{sym, _∙_}
-use Rattle.model.specs.Words.{lent}
+use Rattle.model.specs.Words.{State, lent}
 use Rattle.model.specs.Calls as Calls
 use Rattle.access.proofs.Refusing.{said, applies}
 use Rattle.access.proofs.FreshHeap.{fresh-done}
@@ -13,6 +13,10 @@ use Rattle.access.proofs.answers.say.Reads as say-reads
 use Rattle.runs.proofs.clear.Reads as clear-reads
 use Rattle.words.proofs.shape.bad_length.Reads as bad-length-reads
 
+-- what the call was lent
+abbrev start : tie.Start → State
+start c = lent (c .args .heap .now) (c .args .roots .now) (c .args .«record»)
+
 bad-length-requires : tie.Need-bad-length-requires
 bad-length-requires c κs = search needs
 
@@ -21,7 +25,9 @@ say-requires c κs = search needs
 
 returns : tie.Need-returns
 unfolding Calls.fresh
-returns c = said _ _ (c .say .ensures) (applies _ (sym (c .before .before .bad-length .ensures) ∙ c .before .if1 .taken))
+returns c =
+    said _ _ (c .say .ensures)
+    (applies _ (sym (c .before .before .bad-length .ensures) ∙ c .before .if1 .taken))
 
 clear-requires : tie.Need-clear-requires
 clear-requires c κs = search needs
@@ -33,7 +39,13 @@ same-length : tie.Need-same-length
 same-length c = search needs
 
 returns-2 : tie.Need-returns-2
-returns-2 c = said _ _ (c .say2 .ensures) (fresh-done (lent (c .before .before .before .before .before .before .before .before .before .args .heap .now) (c .before .before .before .before .before .before .before .before .before .args .roots .now) (c .before .before .before .before .before .before .before .before .before .args .«record»)) _ (sym (c .before .before .before .before .before .before .bad-length .ensures) ∙ c .before .before .before .before .before .if1 .left) (c .before .before .before .clear .ensures))
+returns-2 c =
+    let cleared = c .before .before .before in
+    let sized = cleared .before .before in
+    said _ _ (c .say2 .ensures)
+    (fresh-done (start (sized .before .before .before .before)) _
+    (sym (sized .before .bad-length .ensures) ∙ sized .if1 .left)
+    (cleared .clear .ensures))
 
 pub fresh-spec : {M : Type 1} → statement M
 fresh-spec =

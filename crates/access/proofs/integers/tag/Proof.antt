@@ -15,14 +15,24 @@ use Rattle.access.proofs.integers.tag.Reads as reads
 use Rattle.access.proofs.integers.tag.Lts as lts
 
 sub-below : tie.Need-sub-below
-sub-below c = let f = c .before .fits .value in let b = negative _ f (c .if1 .taken) in rw (down _ f b) (record { sfits = b .small })
+sub-below c =
+    let f = c .before .fits .value in
+    let b = negative _ f (c .if1 .taken) in
+    rw (down _ f b) (record { sfits = b .small })
 
 cast-below : tie.Need-cast-below
-cast-below c = let f = c .before .fits .value in let b = negative _ f (c .if1 .taken) in rw (below-is _ f b) (tt, omega (arith, b .small))
+cast-below c =
+    let f = c .before .fits .value in
+    let b = negative _ f (c .if1 .taken) in
+    rw (below-is _ f b) (tt, omega (arith, b .small))
 
 returns : tie.Need-returns
 unfolding tagged
-returns c = let f = c .before .before .fits .value in let b = negative _ f (c .before .if1 .taken) in let h = rw (below-is _ f b) at (c .if2 .taken) in rw (b .is) (simp (lt-leb _ maxInteger h))
+returns c =
+    let f = c .before .before .fits .value in
+    let b = negative _ f (c .before .if1 .taken) in
+    let h = rw (below-is _ f b) at (c .if2 .taken) in
+    rw (b .is) (simp (lt-leb _ maxInteger h))
 
 mul-t7 : tie.Need-mul-t7
 mul-t7 c = search needs
@@ -35,14 +45,26 @@ cast-t9 c = search needs
 
 returns-2 : tie.Need-returns-2
 unfolding tagged
-returns-2 c = let f = c .before .before .fits .value in let b = negative _ f (c .before .if1 .taken) in let h = rw (below-is _ f b) at (c .if2 .left) in ap (λ (z : ℤ). Word (4294967295 - 2 * natAbs z)) (below-is _ f b) ∙ sym (ap tagged (b .is) ∙ simp (le-leb _ maxInteger h))
+returns-2 c =
+    let f = c .before .before .fits .value in
+    let b = negative _ f (c .before .if1 .taken) in
+    let h = rw (below-is _ f b) at (c .if2 .left) in
+    ap (λ (z : ℤ). Word (4294967295 - 2 * natAbs z)) (below-is _ f b)
+    ∙ sym (ap tagged (b .is) ∙ simp (le-leb _ maxInteger h))
 
 cast-size : tie.Need-cast-size
-cast-size c = let f = c .before .fits .value in let b = natural _ f (c .if1 .left) in rw (size-is _ f b) (tt, omega (arith, b .small))
+cast-size c =
+    let f = c .before .fits .value in
+    let b = natural _ f (c .if1 .left) in
+    rw (size-is _ f b) (tt, omega (arith, b .small))
 
 returns-3 : tie.Need-returns-3
 unfolding tagged
-returns-3 c = let f = c .before .before .fits .value in let b = natural _ f (c .before .if1 .left) in let h = rw (size-is _ f b) at (c .if3 .taken) in rw (b .is) (simp (lt-leb _ maxInteger h))
+returns-3 c =
+    let f = c .before .before .fits .value in
+    let b = natural _ f (c .before .if1 .left) in
+    let h = rw (size-is _ f b) at (c .if3 .taken) in
+    rw (b .is) (simp (lt-leb _ maxInteger h))
 
 mul-t10 : tie.Need-mul-t10
 mul-t10 c = search needs
@@ -55,7 +77,12 @@ cast-t12 c = search needs
 
 returns-4 : tie.Need-returns-4
 unfolding tagged
-returns-4 c = let f = c .before .before .fits .value in let b = natural _ f (c .before .if1 .left) in let h = rw (size-is _ f b) at (c .if3 .left) in ap (λ (z : ℤ). Word (2 * natAbs z + 1)) (size-is _ f b) ∙ sym (ap tagged (b .is) ∙ simp (le-leb _ maxInteger h))
+returns-4 c =
+    let f = c .before .before .fits .value in
+    let b = natural _ f (c .before .if1 .left) in
+    let h = rw (size-is _ f b) at (c .if3 .left) in
+    ap (λ (z : ℤ). Word (2 * natAbs z + 1)) (size-is _ f b)
+    ∙ sym (ap tagged (b .is) ∙ simp (le-leb _ maxInteger h))
 
 pub tag-spec : {M : Type 1} → statement M
 tag-spec =

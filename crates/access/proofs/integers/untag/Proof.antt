@@ -16,8 +16,10 @@ use Rattle.access.proofs.integers.untag.Reads as reads
 use Rattle.access.proofs.integers.untag.Lts as lts
 
 -- -1 - m, where m is below 2 ^ 31
-is : (c : tie.Else1) → negsuc 0 -ℤ toZ w32 ((4294967295 - c .before .args .word) / 2) ≡ negsuc ((4294967295 - c .before .args .word) / 2)
-is c = ap (λ (z : ℤ). negsuc 0 -ℤ z) (toZ-pos w32 ((4294967295 - c .before .args .word) / 2) (omega arith)) ∙ below _
+is : (c : tie.Else1) → let m = (4294967295 - c .before .args .word) / 2 in negsuc 0 -ℤ toZ w32 m ≡ negsuc m
+is c =
+    let m = (4294967295 - c .before .args .word) / 2 in
+    ap (λ (z : ℤ). negsuc 0 -ℤ z) (toZ-pos w32 m (omega arith)) ∙ below _
 
 cast-result : tie.Need-cast-result
 cast-result c = search needs
@@ -37,7 +39,9 @@ sub-result c = rw (is c) (record { sfits = omega arith })
 
 returns-2 : tie.Need-returns-2
 unfolding untag
-returns-2 c = simp (le-ltb (c .before .args .word) 2147483648 (omega arith)) (ap (λ (z : ℤ). toZ w32 (ofZ w32 z)) (is c) ∙ toZ-ofZ w32 _ (record { sfits = omega arith }))
+returns-2 c =
+    simp (le-ltb (c .before .args .word) 2147483648 (omega arith))
+    (ap (λ (z : ℤ). toZ w32 (ofZ w32 z)) (is c) ∙ toZ-ofZ w32 _ (record { sfits = omega arith }))
 
 pub untag-spec : {M : Type 1} → statement M
 untag-spec = tie.close (tie.spec cast-result returns sub-below cast-result-2 sub-result returns-2)

@@ -2,7 +2,11 @@
 use Prim.Native.Nat.{_<_}
 use native.Mathlib.Omega.{arith}
 use lib.ListN.{length}
-use mathlib.Core.Path.{refl, sym, _∙_}
+use mathlib.Core.Path.{_≡_, refl, sym, _∙_}
+use mathlib.Core.Bool.{false, _||_}
+use Rattle.model.specs.Words.{State, lent}
+use Rattle.model.specs.Shape.{badShape}
+use Rattle.model.specs.Changes.{noRoot}
 use Rattle.model.specs.Calls.{copy}
 use Rattle.access.proofs.Refusing.{said, applies, passes}
 use Rattle.access.proofs.RootNumbers.{both-below}
@@ -15,8 +19,20 @@ use Rattle.access.proofs.answers.say.Reads as say-reads
 use Rattle.access.proofs.root_numbers.no_root.Reads as no-root-reads
 use Rattle.words.proofs.shape.bad_shape.Reads as bad-shape-reads
 
-below : (c : tie.Else2) → (c .before .before .before .before .before .before .args .from < length (c .before .before .before .before .before .before .args .roots .now)) × (c .before .before .before .before .before .before .args .to < length (c .before .before .before .before .before .before .args .roots .now))
-below c = both-below _ _ _ (sym (c .before .no-root .ensures) ∙ c .if2 .left)
+-- what the call was lent
+abbrev start : tie.Start → State
+start c = lent (c .args .heap .now) (c .args .roots .now) (c .args .«record»)
+
+shape : (c : tie.Else1) → badShape (start (c .before .before .before .before)) ≡ false
+shape c = sym (c .before .bad-shape .ensures) ∙ c .if1 .left
+
+rooted : (c : tie.Else2) → let s = c .before .before .before .before .before .before in
+    (noRoot (start s) (s .args .from) || noRoot (start s) (s .args .to)) ≡ false
+rooted c = sym (c .before .no-root .ensures) ∙ c .if2 .left
+
+below : (c : tie.Else2) → let s = c .before .before .before .before .before .before in
+    (s .args .from < length (s .args .roots .now)) × (s .args .to < length (s .args .roots .now))
+below c = both-below _ _ _ (rooted c)
 
 bad-shape-requires : tie.Need-bad-shape-requires
 bad-shape-requires c κs = search needs
@@ -26,7 +42,9 @@ say-requires c κs = search needs
 
 returns : tie.Need-returns
 unfolding copy
-returns c = said _ _ (c .say .ensures) (applies _ (sym (c .before .before .bad-shape .ensures) ∙ c .before .if1 .taken))
+returns c =
+    said _ _ (c .say .ensures)
+    (applies _ (sym (c .before .before .bad-shape .ensures) ∙ c .before .if1 .taken))
 
 no-root-requires : tie.Need-no-root-requires
 no-root-requires c κs = search needs
@@ -36,7 +54,10 @@ say-requires-2 c κs = search needs
 
 returns-2 : tie.Need-returns-2
 unfolding copy
-returns-2 c = said _ _ (c .say2 .ensures) (passes _ _ (sym (c .before .before .before .before .bad-shape .ensures) ∙ c .before .before .before .if1 .left) (applies _ (sym (c .before .before .no-root .ensures) ∙ c .before .if2 .taken)))
+returns-2 c =
+    said _ _ (c .say2 .ensures)
+    (passes _ _ (shape (c .before .before .before))
+    (applies _ (sym (c .before .before .no-root .ensures) ∙ c .before .if2 .taken)))
 
 mul-roots : tie.Need-mul-roots
 mul-roots c = let b = below c in search needs
@@ -58,7 +79,11 @@ same-length c = search needs
 
 returns-3 : tie.Need-returns-3
 unfolding copy
-returns-3 c = said _ _ (c .say3 .ensures) (passes _ _ (sym (c .before .before .before .before .before .bad-shape .ensures) ∙ c .before .before .before .before .if1 .left) (passes _ _ (sym (c .before .before .before .no-root .ensures) ∙ c .before .before .if2 .left) refl))
+returns-3 c =
+    let found = c .before .before in
+    said _ _ (c .say3 .ensures)
+    (passes _ _ (shape (found .before .before))
+    (passes _ _ (rooted found) refl))
 
 pub copy-spec : {M : Type 1} → statement M
 copy-spec =

@@ -3,11 +3,13 @@ use Prim.Native.Nat.{_<_}
 use native.Mathlib.Omega.{arith}
 use lib.ListN.{length}
 use borrow.Author.Tests.{eq-eqb, ne-eqb}
-use mathlib.Core.Path.{sym, ap, _∙_}
-use mathlib.Core.Bool.{Bool, cond}
+use mathlib.Core.Path.{_≡_, sym, ap, _∙_}
+use mathlib.Core.Bool.{Bool, false, cond, _||_}
 use Rattle.model.specs.declared.Answer.the-variants as Says
 use Rattle.model.specs.Words.{State, lent}
-use Rattle.model.specs.Answers.{says}
+use Rattle.model.specs.Shape.{badShape}
+use Rattle.model.specs.Changes.{noRoot}
+use Rattle.model.specs.Answers.{Outcome, says}
 use Rattle.model.specs.Calls.{same}
 use Rattle.access.proofs.Refusing.{said, applies, passes}
 use Rattle.access.proofs.RootNumbers.{both-below}
@@ -24,8 +26,20 @@ use Rattle.words.proofs.shape.bad_shape.Reads as bad-shape-reads
 abbrev start : tie.Start → State
 start c = lent (c .args .heap .now) (c .args .roots .now) (c .args .«record»)
 
-below : (c : tie.Else2) → (c .before .before .before .before .before .before .args .one < length (c .before .before .before .before .before .before .args .roots .now)) × (c .before .before .before .before .before .before .args .other < length (c .before .before .before .before .before .before .args .roots .now))
-below c = both-below _ _ _ (sym (c .before .no-root .ensures) ∙ c .if2 .left)
+shape : (c : tie.Else1) → badShape (start (c .before .before .before .before)) ≡ false
+shape c = sym (c .before .bad-shape .ensures) ∙ c .if1 .left
+
+rooted : (c : tie.Else2) → let s = c .before .before .before .before .before .before in
+    (noRoot (start s) (s .args .one) || noRoot (start s) (s .args .other)) ≡ false
+rooted c = sym (c .before .no-root .ensures) ∙ c .if2 .left
+
+-- what is said of two words, by whether they are equal
+abbrev answer : State → Bool → Outcome
+answer s b = says (cond b Says.Yes Says.No) s
+
+below : (c : tie.Else2) → let s = c .before .before .before .before .before .before in
+    (s .args .one < length (s .args .roots .now)) × (s .args .other < length (s .args .roots .now))
+below c = both-below _ _ _ (rooted c)
 
 bad-shape-requires : tie.Need-bad-shape-requires
 bad-shape-requires c κs = search needs
@@ -35,7 +49,9 @@ say-requires c κs = search needs
 
 returns : tie.Need-returns
 unfolding same
-returns c = said _ _ (c .say .ensures) (applies _ (sym (c .before .before .bad-shape .ensures) ∙ c .before .if1 .taken))
+returns c =
+    said _ _ (c .say .ensures)
+    (applies _ (sym (c .before .before .bad-shape .ensures) ∙ c .before .if1 .taken))
 
 no-root-requires : tie.Need-no-root-requires
 no-root-requires c κs = search needs
@@ -45,7 +61,10 @@ say-requires-2 c κs = search needs
 
 returns-2 : tie.Need-returns-2
 unfolding same
-returns-2 c = said _ _ (c .say2 .ensures) (passes _ _ (sym (c .before .before .before .before .bad-shape .ensures) ∙ c .before .before .before .if1 .left) (applies _ (sym (c .before .before .no-root .ensures) ∙ c .before .if2 .taken)))
+returns-2 c =
+    said _ _ (c .say2 .ensures)
+    (passes _ _ (shape (c .before .before .before))
+    (applies _ (sym (c .before .before .no-root .ensures) ∙ c .before .if2 .taken)))
 
 mul-if3 : tie.Need-mul-if3
 mul-if3 c = let b = below c in search needs
@@ -64,14 +83,26 @@ say-requires-3 c κs = search needs
 
 returns-3 : tie.Need-returns-3
 unfolding same
-returns-3 c = said _ _ (c .say3 .ensures) (passes _ _ (sym (c .before .before .before .before .before .before .before .bad-shape .ensures) ∙ c .before .before .before .before .before .before .if1 .left) (passes _ _ (sym (c .before .before .before .before .before .no-root .ensures) ∙ c .before .before .before .before .if2 .left) (ap (λ (b : Bool). says (cond b Says.Yes Says.No) (start (c .before .before .before .before .before .before .before .before .before .before))) (sym (eq-eqb _ _ (c .before .if3 .taken))))))
+returns-3 c =
+    let found = c .before .before .before .before in
+    let shaped = found .before .before in
+    said _ _ (c .say3 .ensures)
+    (passes _ _ (shape shaped)
+    (passes _ _ (rooted found)
+    (ap (answer (start (shaped .before .before .before .before))) (sym (eq-eqb _ _ (c .before .if3 .taken))))))
 
 say-requires-4 : tie.Need-say-requires-4
 say-requires-4 c κs = search needs
 
 returns-4 : tie.Need-returns-4
 unfolding same
-returns-4 c = said _ _ (c .say4 .ensures) (passes _ _ (sym (c .before .before .before .before .before .before .before .bad-shape .ensures) ∙ c .before .before .before .before .before .before .if1 .left) (passes _ _ (sym (c .before .before .before .before .before .no-root .ensures) ∙ c .before .before .before .before .if2 .left) (ap (λ (b : Bool). says (cond b Says.Yes Says.No) (start (c .before .before .before .before .before .before .before .before .before .before))) (sym (ne-eqb _ _ (c .before .if3 .left))))))
+returns-4 c =
+    let found = c .before .before .before .before in
+    let shaped = found .before .before in
+    said _ _ (c .say4 .ensures)
+    (passes _ _ (shape shaped)
+    (passes _ _ (rooted found)
+    (ap (answer (start (shaped .before .before .before .before))) (sym (ne-eqb _ _ (c .before .if3 .left))))))
 
 pub same-spec : {M : Type 1} → statement M
 same-spec =

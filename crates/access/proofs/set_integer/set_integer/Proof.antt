@@ -1,8 +1,10 @@
 -- `access::set_integer::set_integer` meets its contract, test by test; the range by what `tag` answers.
 use borrow.Author.Tests.{le-leb, lt-leb}
-use mathlib.Core.Path.{sym, ap, _∙_}
+use mathlib.Core.Path.{_≡_, sym, ap, _∙_}
 use mir.ValLaws.{toZ-ofZ}
-use mathlib.Core.Bool.{not}
+use mathlib.Core.Bool.{false, not}
+use Rattle.model.specs.Words.{State, lent}
+use Rattle.model.specs.Shape.{badShape}
 use Rattle.model.specs.Calls.{setInteger}
 use Rattle.access.proofs.Refusing.{said, applies, passes}
 use Rattle.access.specs.Leaves.{tagged}
@@ -16,6 +18,17 @@ use Rattle.access.proofs.answers.say.Reads as say-reads
 use Rattle.access.proofs.integers.tag.Reads as tag-reads
 use Rattle.words.proofs.shape.bad_shape.Reads as bad-shape-reads
 
+-- what the call was lent
+abbrev start : tie.Start → State
+start c = lent (c .args .heap .now) (c .args .roots .now) (c .args .«record»)
+
+shape : (c : tie.Else1) → badShape (start (c .before .before .before .before)) ≡ false
+shape c = sym (c .before .bad-shape .ensures) ∙ c .if1 .left
+
+-- what `tag` answers, of the value as it was handed in
+word : (c : tie.After-tag) → c .tag .result ≡ tagged (c .before .before .before .before .before .before .args .value)
+word c = c .tag .ensures ∙ ap tagged (toZ-ofZ _ _ (c .before .before .before .before .before .before .fits .value))
+
 bad-shape-requires : tie.Need-bad-shape-requires
 bad-shape-requires c κs = search needs
 
@@ -24,14 +37,19 @@ say-requires c κs = search needs
 
 returns : tie.Need-returns
 unfolding setInteger
-returns c = said _ _ (c .say .ensures) (applies _ (sym (c .before .before .bad-shape .ensures) ∙ c .before .if1 .taken))
+returns c =
+    said _ _ (c .say .ensures)
+    (applies _ (sym (c .before .before .bad-shape .ensures) ∙ c .before .if1 .taken))
 
 say-requires-2 : tie.Need-say-requires-2
 say-requires-2 c κs = search needs
 
 returns-2 : tie.Need-returns-2
 unfolding setInteger
-returns-2 c = said _ _ (c .say2 .ensures) (passes _ _ (sym (c .before .before .before .bad-shape .ensures) ∙ c .before .before .if1 .left) (applies _ (le-leb _ _ (c .before .if2 .taken))))
+returns-2 c =
+    said _ _ (c .say2 .ensures)
+    (passes _ _ (shape (c .before .before))
+    (applies _ (le-leb _ _ (c .before .if2 .taken))))
 
 tag-requires : tie.Need-tag-requires
 tag-requires c κs = search needs
@@ -59,11 +77,24 @@ same-length c = search needs
 
 returns-3 : tie.Need-returns-3
 unfolding setInteger
-returns-3 c = let t = tagged-word (c .before .before .before .before .before .before .before .before .before .before .args .value) _ (sym (c .before .before .before .before .tag .ensures ∙ ap tagged (toZ-ofZ _ _ (c .before .before .before .before .before .before .before .before .before .before .fits .value))) ∙ c .before .before .tagged .given .1) in said _ _ (c .say3 .ensures) (passes _ _ (sym (c .before .before .before .before .before .before .before .bad-shape .ensures) ∙ c .before .before .before .before .before .before .if1 .left) (passes _ _ (lt-leb _ _ (c .before .before .before .before .before .if2 .left)) (passes _ _ (ap not (t .0)) (rw (t .1)))))
+returns-3 c =
+    let named = c .before .before in
+    let rooted = named .before .before .before in
+    let t = tagged-word _ _ (sym (word (named .before .before)) ∙ named .tagged .given .1) in
+    said _ _ (c .say3 .ensures)
+    (passes _ _ (shape (rooted .before))
+    (passes _ _ (lt-leb _ _ (rooted .if2 .left))
+    (passes _ _ (ap not (t .0)) (rw (t .1)))))
 
 returns-4 : tie.Need-returns-4
 unfolding setInteger
-returns-4 c = said _ _ (c .say4 .ensures) (passes _ _ (sym (c .before .before .before .before .before .before .bad-shape .ensures) ∙ c .before .before .before .before .before .if1 .left) (passes _ _ (lt-leb _ _ (c .before .before .before .before .if2 .left)) (applies _ (ap not (tagged-none (c .before .before .before .before .before .before .before .before .before .args .value) (sym (c .before .before .before .tag .ensures ∙ ap tagged (toZ-ofZ _ _ (c .before .before .before .before .before .before .before .before .before .fits .value))) ∙ c .before .enum-told .given .1))))))
+returns-4 c =
+    let named = c .before in
+    let rooted = named .before .before .before in
+    said _ _ (c .say4 .ensures)
+    (passes _ _ (shape (rooted .before))
+    (passes _ _ (lt-leb _ _ (rooted .if2 .left))
+    (applies _ (ap not (tagged-none _ (sym (word (named .before .before)) ∙ named .enum-told .given .1))))))
 
 pub set-integer-spec : {M : Type 1} → statement M
 set-integer-spec =

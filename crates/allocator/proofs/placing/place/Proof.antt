@@ -47,16 +47,22 @@ add-t18 c = search needs
 
 same-length : tie.Need-same-length
 same-length c =
-    let s = c .before .before .before .before .before .before .before .before .before in
-    ap length (c .before .before .before .clear .ensures) ∙ cleared-length _ _ _ ∙ length-set (s .args .heap .now) (s .args .«record» .free .0) (c .before .before .before .before .before .header .result)
+    let cleared = c .before .before .before in
+    let headed = cleared .before .before in
+    let s = headed .before .before .before .before in
+    ap length (cleared .clear .ensures) ∙ cleared-length _ _ _
+    ∙ length-set (s .args .heap .now) (s .args .«record» .free .0) (headed .header .result)
 
 same-length-2 : tie.Need-same-length-2
 same-length-2 c = search needs
 
 returns : tie.Need-returns
 returns c =
-    let s = c .before .before .before .before .before .before .before .before .before in
-    placed-by tuple (lent (s .args .heap .now) (s .args .roots .now) (s .args .«record»)) _ _ _ _ _ _ (c .before .before .before .before .before .header .ensures) (c .before .before .before .clear .ensures) (c .address-of .ensures)
+    let cleared = c .before .before .before in
+    let headed = cleared .before .before in
+    let s = headed .before .before .before .before in
+    placed-by tuple (lent (s .args .heap .now) (s .args .roots .now) (s .args .«record»)) _ _ _ _ _ _
+    (headed .header .ensures) (cleared .clear .ensures) (c .address-of .ensures)
 
 pub place-spec : {M : Type 1} → statement M
 place-spec =

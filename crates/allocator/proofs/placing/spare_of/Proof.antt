@@ -16,7 +16,10 @@ first-of-requires : tie.Need-first-of-requires
 first-of-requires c κs = search needs
 
 add-result : tie.Need-add-result
-add-result c = omega (arith, c .first-of .ensures, first-most ((c .before .args .words - 1) / 2) (c .before .args .«record» .half), c .before .pre .few)
+add-result c =
+    let s = c .before in
+    let least = first-most ((s .args .words - 1) / 2) (s .args .«record» .half) in
+    omega (arith, c .first-of .ensures, s .pre .few)
 
 sub-result : tie.Need-sub-result
 sub-result c = search needs

@@ -14,8 +14,11 @@ use Rattle.engine.proofs.scanning.pass_field.Reads as pass-field-reads
 
 abbrev Inv-loop : tie.InvT-loop
 Inv-loop heap₀ n free₀ at₀ end heap free at =
-    (at ≤ end) × (end ≤ free .0) × (run tuple (end - at) heap (scan at (end - at) 0 (free .0)) ≡ run tuple n heap₀ (scan at₀ n 0 (free₀ .0)))
-    × SafeRun tuple (end - at) heap (scan at (end - at) 0 (free .0)) × (length heap ≡ length heap₀)
+    (at ≤ end)
+    × (end ≤ free .0)
+    × (run tuple (end - at) heap (scan at (end - at) 0 (free .0)) ≡ run tuple n heap₀ (scan at₀ n 0 (free₀ .0)))
+    × SafeRun tuple (end - at) heap (scan at (end - at) 0 (free .0))
+    × (length heap ≡ length heap₀)
 
 abbrev μ-loop : tie.MeasureT-loop
 μ-loop heap₀ n free₀ at₀ end heap free at = end - at
@@ -30,7 +33,9 @@ loop-holds c =
     (omega arith, s .pre .whole, rw all, rw all (s .pre .safe), refl)
 
 pass-field-requires : tie.Need-pass-field-requires Inv-loop μ-loop
-pass-field-requires c κs = field-may _ _ _ _ _ (c .before .loop-test .taken) (c .before .before .loop .inv .1) (c .before .before .loop .inv .3)
+pass-field-requires c κs =
+    let l = c .before .before .loop in
+    field-may _ _ _ _ _ (c .before .loop-test .taken) (l .inv .1) (l .inv .3)
 
 add-at : tie.Need-add-at Inv-loop μ-loop
 add-at c = omega arith

@@ -30,16 +30,29 @@ is-traced-requires : tie.Need-is-traced-requires
 is-traced-requires c κs = search needs
 
 pass-fields-requires : tie.Need-pass-fields-requires
-pass-fields-requires c κs = fields-may _ _ _ _ (c .before .before .before .before .before .before .pre) _ (c .before .before .before .count-of .ensures .0) (sym (c .before .before .is-traced .ensures) ∙ c .before .if1 .taken)
+pass-fields-requires c κs =
+    let tested = c .before .before in
+    let counted = tested .before in
+    fields-may _ _ _ _ (counted .before .before .before .pre) _ (counted .count-of .ensures .0)
+    (sym (tested .is-traced .ensures) ∙ c .before .if1 .taken)
 
 same-length : tie.Need-same-length
 same-length c = search needs
 
 returns : tie.Need-returns
-returns c = traced-is _ _ _ _ (c .before .before .before .before .before .before .before .before .before .pre) _ (c .before .before .before .before .before .before .count-of .ensures .0) (sym (c .before .before .before .before .before .is-traced .ensures) ∙ c .before .before .before .before .if1 .taken) _ _ (c .before .before .pass-fields .ensures)
+returns c =
+    let traced = c .before .before .before .before in
+    let tested = traced .before in
+    let counted = tested .before in
+    traced-is _ _ _ _ (counted .before .before .before .pre) _ (counted .count-of .ensures .0)
+    (sym (tested .is-traced .ensures) ∙ traced .if1 .taken) _ _ (c .before .before .pass-fields .ensures)
 
 returns-2 : tie.Need-returns-2
-returns-2 c = untraced-is _ _ _ _ (c .before .before .before .before .before .pre) _ (c .before .before .count-of .ensures .0) (sym (c .before .is-traced .ensures) ∙ c .if1 .left)
+returns-2 c =
+    let tested = c .before in
+    let counted = tested .before in
+    untraced-is _ _ _ _ (counted .before .before .before .pre) _ (counted .count-of .ensures .0)
+    (sym (tested .is-traced .ensures) ∙ c .if1 .left)
 
 pub pass-object-spec : {M : Type 1} → statement M
 pass-object-spec =

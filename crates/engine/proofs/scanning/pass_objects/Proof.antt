@@ -13,8 +13,10 @@ use Rattle.engine.proofs.scanning.pass_object.Reads as pass-object-read
 
 abbrev Inv-loop : tie.InvT-loop
 Inv-loop heap₀ at₀ free₀ heap at free =
-    (run tuple (length heap - at .0) heap (between (at .0) (free .0)) ≡ run tuple (length heap₀ - at₀ .0) heap₀ (between (at₀ .0) (free₀ .0)))
-    × SafeRun tuple (length heap - at .0) heap (between (at .0) (free .0)) × (length heap ≡ length heap₀)
+    (run tuple (length heap - at .0) heap (between (at .0) (free .0))
+    ≡ run tuple (length heap₀ - at₀ .0) heap₀ (between (at₀ .0) (free₀ .0)))
+    × SafeRun tuple (length heap - at .0) heap (between (at .0) (free .0))
+    × (length heap ≡ length heap₀)
 
 abbrev μ-loop : tie.MeasureT-loop
 μ-loop heap₀ at₀ free₀ heap at free = length heap - at .0
@@ -27,14 +29,18 @@ pass-object-requires c κs = object-may _ _ _ _ (c .before .if1 .taken) (c .befo
 
 loop-less : tie.Need-loop-less Inv-loop μ-loop
 loop-less c =
-    let l = c .before .before .before .before .before .before .before .before .before .loop in
-    object-less tuple (l .heap) _ _ (c .before .before .before .before .before .before .if1 .taken) (l .inv .1) _ _ _ (c .before .before .before .before .pass-object .ensures)
+    let passed = c .before .before .before .before in
+    let more = passed .before .before in
+    let l = more .before .before .before .loop in
+    object-less tuple (l .heap) _ _ (more .if1 .taken) (l .inv .1) _ _ _ (passed .pass-object .ensures)
 
 loop-again : tie.Need-loop-again Inv-loop μ-loop
 loop-again c =
-    let l = c .before .before .before .before .before .before .before .before .before .loop in
-    let m = c .before .before .before .before .before .before .if1 .taken in
-    let e = c .before .before .before .before .pass-object .ensures in (
+    let passed = c .before .before .before .before in
+    let more = passed .before .before in
+    let l = more .before .before .before .loop in
+    let m = more .if1 .taken in
+    let e = passed .pass-object .ensures in (
       object-run tuple (l .heap) _ _ m (l .inv .1) _ _ _ e ∙ l .inv .0,
       object-safe tuple (l .heap) _ _ m (l .inv .1) _ _ _ e,
       object-length tuple (l .heap) _ _ m (l .inv .1) _ _ _ e ∙ l .inv .2,

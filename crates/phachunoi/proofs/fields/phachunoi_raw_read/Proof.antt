@@ -24,8 +24,11 @@ answer-requires c κs = search needs
 returns : tie.Need-returns
 unfolding step
 returns c =
-    let a = c .before .before .before .before .before .args in
-    crosses (λ t c. answer t) (a .«record») (a .heap .now) (a .roots .now) (Ask.RawRead (a .object) (a .field)) (c .before .before .record-of .ensures) (c .before .raw-read .ensures) (c .answer .ensures)
+    let called = c .before in
+    let crossed = called .before in
+    let a = crossed .before .before .before .args in
+    crosses (λ t c. answer t) (a .«record») (a .heap .now) (a .roots .now) (Ask.RawRead (a .object) (a .field))
+    (crossed .record-of .ensures) (called .raw-read .ensures) (c .answer .ensures)
 
 pub phachunoi-raw-read-spec : {M : Type 1} → statement M
 phachunoi-raw-read-spec =

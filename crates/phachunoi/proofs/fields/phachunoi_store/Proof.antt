@@ -25,14 +25,20 @@ same-length c = search needs
 returns : tie.Need-returns
 unfolding step
 returns c =
-    let a = c .before .before .before .before .before .before .before .before .args in
-    crosses result (a .«record») (a .heap .now) (a .roots .now) (Ask.Store (a .object) (a .field) (a .from)) (c .before .before .before .before .record-of .ensures) (c .before .before .before .store .ensures) (c .result .ensures)
+    let called = c .before .before .before in
+    let crossed = called .before in
+    let a = crossed .before .before .before .before .args in
+    crosses result (a .«record») (a .heap .now) (a .roots .now) (Ask.Store (a .object) (a .field) (a .from))
+    (crossed .record-of .ensures) (called .store .ensures) (c .result .ensures)
 
 result-requires : tie.Need-result-requires
 unfolding step
 result-requires c κs =
-    let a = c .before .before .before .before .before .before .before .args in
-    narrow (a .«record») (a .heap .now) (a .roots .now) (Ask.Store (a .object) (a .field) (a .from)) (c .before .before .before .record-of .ensures) (c .before .before .store .ensures) (omega arith)
+    let called = c .before .before in
+    let crossed = called .before in
+    let a = crossed .before .before .before .before .args in
+    narrow (a .«record») (a .heap .now) (a .roots .now) (Ask.Store (a .object) (a .field) (a .from))
+    (crossed .record-of .ensures) (called .store .ensures) (omega arith)
 
 pub phachunoi-store-spec : {M : Type 1} → statement M
 phachunoi-store-spec =

@@ -28,14 +28,20 @@ same-length-2 c = search needs
 returns : tie.Need-returns
 unfolding step
 returns c =
-    let a = c .before .before .before .before .before .before .before .before .before .before .before .args in
-    crosses collected (a .«record») (a .heap .now) (a .roots .now) Ask.Collect (c .before .before .before .before .before .before .record-of .ensures) (c .before .before .before .before .before .collect .ensures) (c .collected .ensures)
+    let called = c .before .before .before .before .before in
+    let crossed = called .before in
+    let a = crossed .before .before .before .before .before .args in
+    crosses collected (a .«record») (a .heap .now) (a .roots .now) Ask.Collect
+    (crossed .record-of .ensures) (called .collect .ensures) (c .collected .ensures)
 
 collected-requires : tie.Need-collected-requires
 unfolding step
 collected-requires c κs =
-    let a = c .before .before .before .before .before .before .before .before .before .before .args in
-    narrow (a .«record») (a .heap .now) (a .roots .now) Ask.Collect (c .before .before .before .before .before .record-of .ensures) (c .before .before .before .before .collect .ensures) (omega arith)
+    let called = c .before .before .before .before in
+    let crossed = called .before in
+    let a = crossed .before .before .before .before .before .args in
+    narrow (a .«record») (a .heap .now) (a .roots .now) Ask.Collect
+    (crossed .record-of .ensures) (called .collect .ensures) (omega arith)
 
 pub phachunoi-collect-spec : {M : Type 1} → statement M
 phachunoi-collect-spec =

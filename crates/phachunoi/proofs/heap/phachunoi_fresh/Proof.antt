@@ -21,16 +21,22 @@ fresh-requires c κs = search needs
 
 fresh-result-requires : tie.Need-fresh-result-requires
 fresh-result-requires c κs =
-    let a = c .before .before .before .before .before .before .before .args in
-    fresh-narrow (a .heap .now) (c .before .before .before .record-of .result) (a .«record») (c .before .before .before .record-of .ensures) (c .before .before .fresh .ensures) (omega arith)
+    let called = c .before .before in
+    let crossed = called .before in
+    let a = crossed .before .before .before .before .args in
+    fresh-narrow (a .heap .now) (crossed .record-of .result) (a .«record»)
+    (crossed .record-of .ensures) (called .fresh .ensures) (omega arith)
 
 same-length : tie.Need-same-length
 same-length c = search needs
 
 returns : tie.Need-returns
 returns c =
-    let a = c .before .before .before .before .before .before .before .before .args in
-    fresh-crosses (a .heap .now) (c .before .before .before .before .record-of .result) (a .«record») (c .before .before .before .fresh .ensures) (c .fresh-result .ensures)
+    let called = c .before .before .before in
+    let crossed = called .before in
+    let a = crossed .before .before .before .before .args in
+    fresh-crosses (a .heap .now) (crossed .record-of .result) (a .«record»)
+    (called .fresh .ensures) (c .fresh-result .ensures)
 
 pub phachunoi-fresh-spec : {M : Type 1} → statement M
 phachunoi-fresh-spec =

@@ -24,8 +24,11 @@ seen-requires c κs = search needs
 returns : tie.Need-returns
 unfolding step
 returns c =
-    let a = c .before .before .before .before .before .args in
-    crosses (λ t c. seen t) (a .«record») (a .heap .now) (a .roots .now) (Ask.Inspect (a .root)) (c .before .before .record-of .ensures) (c .before .inspect .ensures) (c .seen .ensures)
+    let called = c .before in
+    let crossed = called .before in
+    let a = crossed .before .before .before .args in
+    crosses (λ t c. seen t) (a .«record») (a .heap .now) (a .roots .now) (Ask.Inspect (a .root))
+    (crossed .record-of .ensures) (called .inspect .ensures) (c .seen .ensures)
 
 pub phachunoi-inspect-spec : {M : Type 1} → statement M
 phachunoi-inspect-spec =

@@ -24,8 +24,11 @@ answer-requires c κs = search needs
 returns : tie.Need-returns
 unfolding step
 returns c =
-    let a = c .before .before .before .before .before .args in
-    crosses (λ t c. answer t) (a .«record») (a .heap .now) (a .roots .now) (Ask.Same (a .one) (a .other)) (c .before .before .record-of .ensures) (c .before .same .ensures) (c .answer .ensures)
+    let called = c .before in
+    let crossed = called .before in
+    let a = crossed .before .before .before .args in
+    crosses (λ t c. answer t) (a .«record») (a .heap .now) (a .roots .now) (Ask.Same (a .one) (a .other))
+    (crossed .record-of .ensures) (called .same .ensures) (c .answer .ensures)
 
 pub phachunoi-same-spec : {M : Type 1} → statement M
 phachunoi-same-spec = tie.close (tie.spec record-of-requires same-requires answer-requires returns)

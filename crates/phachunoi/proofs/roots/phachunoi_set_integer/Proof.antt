@@ -27,18 +27,24 @@ same-length c = search needs
 returns : tie.Need-returns
 unfolding step
 returns c =
-    let s = c .before .before .before .before .before .before .before .before in
+    let called = c .before .before .before in
+    let crossed = called .before in
+    let s = crossed .before .before .before .before in
     let a = s .args in
     let v = toZ-ofZ w64 (a .value) (s .fits .value) in
-    crosses result (a .«record») (a .heap .now) (a .roots .now) (Ask.SetInteger (a .to) (a .value)) (c .before .before .before .before .record-of .ensures) (rw v at (c .before .before .before .set-integer .ensures)) (c .result .ensures)
+    crosses result (a .«record») (a .heap .now) (a .roots .now) (Ask.SetInteger (a .to) (a .value))
+    (crossed .record-of .ensures) (rw v at (called .set-integer .ensures)) (c .result .ensures)
 
 result-requires : tie.Need-result-requires
 unfolding step
 result-requires c κs =
-    let s = c .before .before .before .before .before .before .before in
+    let called = c .before .before in
+    let crossed = called .before in
+    let s = crossed .before .before .before .before in
     let a = s .args in
     let v = toZ-ofZ w64 (a .value) (s .fits .value) in
-    narrow (a .«record») (a .heap .now) (a .roots .now) (Ask.SetInteger (a .to) (a .value)) (c .before .before .before .record-of .ensures) (rw v at (c .before .before .set-integer .ensures)) (omega arith)
+    narrow (a .«record») (a .heap .now) (a .roots .now) (Ask.SetInteger (a .to) (a .value))
+    (crossed .record-of .ensures) (rw v at (called .set-integer .ensures)) (omega arith)
 
 pub phachunoi-set-integer-spec : {M : Type 1} → statement M
 phachunoi-set-integer-spec =

@@ -20,8 +20,11 @@ window-of-requires c κs = place-narrow _ _ (c .find .ensures)
 
 returns : tie.Need-returns
 returns c =
-    let a = c .before .before .before .before .before .args in
-    window-crosses (a .«record») (a .heap .now) (a .roots .now) (a .object) (c .before .before .record-of .ensures) (c .before .find .ensures) (c .window-of .ensures)
+    let called = c .before in
+    let crossed = called .before in
+    let a = crossed .before .before .before .args in
+    window-crosses (a .«record») (a .heap .now) (a .roots .now) (a .object)
+    (crossed .record-of .ensures) (called .find .ensures) (c .window-of .ensures)
 
 pub phachunoi-open-spec : {M : Type 1} → statement M
 phachunoi-open-spec =

@@ -35,8 +35,14 @@ answer-requires-2 c κs = search needs
 returns-2 : tie.Need-returns-2
 unfolding wordAt
 returns-2 c =
-    let a = c .before .before .before .before .before .before .args in
-    rw (lt-leb (a .window .count) (a .field) (omega (arith, c .before .before .before .if1 .left)), le-leb (length (a .heap .now)) (a .window .first + a .field) (omega (arith, c .before .if2 .taken))) (c .answer2 .ensures)
+    let past = c .before in
+    let below = past .before .before in
+    let a = below .before .before .before .args in
+    rw (
+      lt-leb (a .window .count) (a .field) (omega (arith, below .if1 .left)),
+      le-leb (length (a .heap .now)) (a .window .first + a .field) (omega (arith, past .if2 .taken)),
+    )
+    (c .answer2 .ensures)
 
 mul-t9 : tie.Need-mul-t9
 mul-t9 c = search needs
@@ -50,8 +56,14 @@ answer-requires-3 c κs = search needs
 returns-3 : tie.Need-returns-3
 unfolding wordAt
 returns-3 c =
-    let a = c .before .before .before .before .before .before .before .args in
-    rw (lt-leb (a .window .count) (a .field) (omega (arith, c .before .before .before .before .if1 .left)), lt-leb (length (a .heap .now)) (a .window .first + a .field) (omega (arith, c .before .before .if2 .left))) (c .answer3 .ensures)
+    let within = c .before .before in
+    let below = within .before .before in
+    let a = below .before .before .before .args in
+    rw (
+      lt-leb (a .window .count) (a .field) (omega (arith, below .if1 .left)),
+      lt-leb (length (a .heap .now)) (a .window .first + a .field) (omega (arith, within .if2 .left)),
+    )
+    (c .answer3 .ensures)
 
 pub phachunoi-word-spec : {M : Type 1} → statement M
 phachunoi-word-spec =

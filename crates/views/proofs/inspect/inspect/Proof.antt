@@ -2,13 +2,16 @@
 use Prim.Native.Nat.{_<_}
 use borrow.Author.Tests.{le-leb, not-true, not-false}
 use mathlib.Core.Path.{_≡_, sym, ap, _∙_}
-use mathlib.Core.Bool.{false}
+use mathlib.Core.Bool.{true, false}
 use lib.ListN.{length}
 use lib.IntN.{ℤ}
 use Rattle.model.specs.declared.Answer.the-variants as Says
 use Rattle.model.specs.Answers.{says}
 use Rattle.model.specs.Words.{State, lent}
+use Rattle.model.specs.Headers.{tuple}
+use Rattle.model.specs.Objects.{names}
 use Rattle.model.specs.Shape.{badShape}
+use Rattle.model.specs.Changes.{rootWord}
 use Rattle.model.specs.Calls.{inspect}
 use Rattle.access.proofs.Refusing.{said, applies, passes}
 use Rattle.naming.proofs.NamedObjects.{header-below, free-in-heap}
@@ -33,8 +36,17 @@ start c = lent (c .args .heap .now) (c .args .roots .now) (c .args .«record»)
 shape : (c : tie.Else1) → badShape (start (c .before .before .before .before)) ≡ false
 shape c = sym (c .before .bad-shape .ensures) ∙ c .if1 .left
 
-below : (c : tie.After-index-of) → c .index-of .result .0 < length (c .before .before .before .before .before .before .before .before .before .before .before .args .heap .now)
-below c = header-below _ (start (c .before .before .before .before .before .before .before .before .before .before .before)) _ _ (c .index-of .ensures) (shape (c .before .before .before .before .before .before .before)) (sym (c .before .before .names .ensures (c .before .before .before .before .before .before .before .before .before .before .before .args .roots .now)) ∙ not-false _ (c .before .if5 .left))
+named : (c : tie.Else5) → let s = c .before .before .before .before .before .before .before .before .before .before in
+    names tuple (start s) (rootWord (start s) (s .args .root)) ≡ true
+named c =
+    let s = c .before .before .before .before .before .before .before .before .before .before in
+    sym (c .before .names .ensures (s .args .roots .now)) ∙ not-false _ (c .if5 .left)
+
+below : (c : tie.After-index-of) → let s = c .before .before .before .before .before .before .before .before .before .before .before in
+    c .index-of .result .0 < length (s .args .heap .now)
+below c =
+    let shaped = c .before .before .before .before .before .before .before in
+    header-below _ (start (shaped .before .before .before .before)) _ _ (c .index-of .ensures) (shape shaped) (named (c .before))
 
 bad-shape-requires : tie.Need-bad-shape-requires
 bad-shape-requires c κs = search needs
@@ -44,14 +56,19 @@ say-requires c κs = search needs
 
 returns : tie.Need-returns
 unfolding inspect
-returns c = said _ _ (c .say .ensures) (applies _ (sym (c .before .before .bad-shape .ensures) ∙ c .before .if1 .taken))
+returns c =
+    said _ _ (c .say .ensures)
+    (applies _ (sym (c .before .before .bad-shape .ensures) ∙ c .before .if1 .taken))
 
 say-requires-2 : tie.Need-say-requires-2
 say-requires-2 c κs = search needs
 
 returns-2 : tie.Need-returns-2
 unfolding inspect
-returns-2 c = said _ _ (c .say2 .ensures) (passes _ _ (shape (c .before .before)) (applies _ (le-leb _ _ (c .before .if2 .taken))))
+returns-2 c =
+    said _ _ (c .say2 .ensures)
+    (passes _ _ (shape (c .before .before))
+    (applies _ (le-leb _ _ (c .before .if2 .taken))))
 
 mul-word : tie.Need-mul-word
 mul-word c = search needs
@@ -66,22 +83,43 @@ say-requires-3 : tie.Need-say-requires-3
 say-requires-3 c κs = search needs
 
 returns-3 : tie.Need-returns-3
-returns-3 c = said _ _ (c .say3 .ensures) (ap (λ (v : ℤ). says (Says.Integer v) (start (c .before .before .before .before .before .before .before .before .before))) (search needs) ∙ inspect-integer _ (start (c .before .before .before .before .before .before .before .before .before)) _ (shape (c .before .before .before .before .before)) (c .before .before .before .before .if2 .left) (c .before .before .if3 .taken))
+returns-3 c =
+    let rooted = c .before .before .before .before in
+    let shaped = rooted .before in
+    let s = shaped .before .before .before .before in
+    said _ _ (c .say3 .ensures)
+    (ap (λ (v : ℤ). says (Says.Integer v) (start s)) (search needs)
+    ∙ inspect-integer _ (start s) _ (shape shaped) (rooted .if2 .left) (c .before .before .if3 .taken))
 
 say-requires-4 : tie.Need-say-requires-4
 say-requires-4 c κs = search needs
 
 returns-4 : tie.Need-returns-4
-returns-4 c = said _ _ (c .say4 .ensures) (inspect-null _ (start (c .before .before .before .before .before .before .before .before .before)) _ (shape (c .before .before .before .before .before)) (c .before .before .before .before .if2 .left) (c .before .if4 .taken))
+returns-4 c =
+    let rooted = c .before .before .before .before in
+    let shaped = rooted .before in
+    said _ _ (c .say4 .ensures)
+    (inspect-null _ (start (shaped .before .before .before .before)) _ (shape shaped)
+    (rooted .if2 .left) (c .before .if4 .taken))
 
 names-requires : tie.Need-names-requires
-names-requires c κs = free-in-heap (start (c .before .before .before .before .before .before .before .before)) (shape (c .before .before .before .before))
+names-requires c κs =
+    let shaped = c .before .before .before .before in
+    free-in-heap (start (shaped .before .before .before .before)) (shape shaped)
 
 say-requires-5 : tie.Need-say-requires-5
 say-requires-5 c κs = search needs
 
 returns-5 : tie.Need-returns-5
-returns-5 c = said _ _ (c .say5 .ensures) (inspect-nothing _ (start (c .before .before .before .before .before .before .before .before .before .before .before)) _ (shape (c .before .before .before .before .before .before .before)) (c .before .before .before .before .before .before .if2 .left) (c .before .before .before .before .if3 .left) (c .before .before .before .if4 .left) (sym (c .before .before .names .ensures (c .before .before .before .before .before .before .before .before .before .before .before .args .roots .now)) ∙ not-true _ (c .before .if5 .taken)))
+returns-5 c =
+    let odd = c .before .before .before .before in
+    let rooted = odd .before .before in
+    let shaped = rooted .before in
+    let s = shaped .before .before .before .before in
+    said _ _ (c .say5 .ensures)
+    (inspect-nothing _ (start s) _ (shape shaped)
+    (rooted .if2 .left) (odd .if3 .left) (c .before .before .before .if4 .left)
+    (sym (c .before .before .names .ensures (s .args .roots .now)) ∙ not-true _ (c .before .if5 .taken)))
 
 index-of-requires : tie.Need-index-of-requires
 index-of-requires c κs = search needs
@@ -105,7 +143,17 @@ say-requires-6 : tie.Need-say-requires-6
 say-requires-6 c κs = search needs
 
 returns-6 : tie.Need-returns-6
-returns-6 c = said _ _ (c .say6 .ensures) (inspect-object _ (start (c .before .before .before .before .before .before .before .before .before .before .before .before .before .before .before)) _ (shape (c .before .before .before .before .before .before .before .before .before .before .before)) (c .before .before .before .before .before .before .before .before .before .before .if2 .left) (c .before .before .before .before .before .before .before .before .if3 .left) (c .before .before .before .before .before .before .before .if4 .left) _ _ _ (c .before .before .before .before .index-of .ensures) (c .before .before .kind-of .ensures) (c .before .count-of .ensures .0) (sym (c .before .before .before .before .before .before .names .ensures (c .before .before .before .before .before .before .before .before .before .before .before .before .before .before .before .args .roots .now)) ∙ not-false _ (c .before .before .before .before .before .if5 .left)))
+returns-6 c =
+    let indexed = c .before .before .before .before in
+    let object = indexed .before in
+    let word = object .before .before in
+    let odd = word .before in
+    let rooted = odd .before .before in
+    let shaped = rooted .before in
+    said _ _ (c .say6 .ensures)
+    (inspect-object _ (start (shaped .before .before .before .before)) _ (shape shaped)
+    (rooted .if2 .left) (odd .if3 .left) (word .if4 .left) _ _ _
+    (indexed .index-of .ensures) (c .before .before .kind-of .ensures) (c .before .count-of .ensures .0) (named object))
 
 pub inspect-spec : {M : Type 1} → statement M
 inspect-spec =

@@ -2,10 +2,13 @@
 use Prim.Native.Nat.{_<_}
 use borrow.Author.Tests.{le-leb, lt-leb, not-false}
 use mathlib.Core.Path.{_≡_, sym, ap, _∙_}
-use mathlib.Core.Bool.{false, not}
+use mathlib.Core.Bool.{true, false, not}
 use lib.ListN.{length}
 use Rattle.model.specs.Words.{State, lent}
+use Rattle.model.specs.Headers.{tuple}
+use Rattle.model.specs.Objects.{names}
 use Rattle.model.specs.Shape.{badShape}
+use Rattle.model.specs.Changes.{rootWord}
 use Rattle.model.specs.Window.{window}
 use Rattle.naming.proofs.NamedObjects.{free-in-heap, header-below}
 use borrow.Author.Needs.{needs}
@@ -25,8 +28,17 @@ start c = lent (c .args .heap .now) (c .args .roots .now) (c .args .«record»)
 shape : (c : tie.Else1) → badShape (start (c .before .before .before .before)) ≡ false
 shape c = sym (c .before .bad-shape .ensures) ∙ c .if1 .left
 
-below : (c : tie.After-index-of) → c .index-of .result .0 < length (c .before .before .before .before .before .before .before .before .before .args .heap .now)
-below c = header-below _ (start (c .before .before .before .before .before .before .before .before .before)) _ _ (c .index-of .ensures) (shape (c .before .before .before .before .before)) (sym (c .before .before .names .ensures (c .before .before .before .before .before .before .before .before .before .args .roots .now)) ∙ not-false _ (c .before .if3 .left))
+named : (c : tie.Else3) → let s = c .before .before .before .before .before .before .before .before in
+    names tuple (start s) (rootWord (start s) (s .args .object)) ≡ true
+named c =
+    let s = c .before .before .before .before .before .before .before .before in
+    sym (c .before .names .ensures (s .args .roots .now)) ∙ not-false _ (c .if3 .left)
+
+below : (c : tie.After-index-of) → let s = c .before .before .before .before .before .before .before .before .before in
+    c .index-of .result .0 < length (s .args .heap .now)
+below c =
+    let shaped = c .before .before .before .before .before in
+    header-below _ (start (shaped .before .before .before .before)) _ _ (c .index-of .ensures) (shape shaped) (named (c .before))
 
 bad-shape-requires : tie.Need-bad-shape-requires
 bad-shape-requires c κs = search needs
@@ -46,11 +58,21 @@ shared-slice-read-word : tie.Need-shared-slice-read-word
 shared-slice-read-word c = search needs
 
 names-requires : tie.Need-names-requires
-names-requires c κs = free-in-heap (start (c .before .before .before .before .before .before)) (shape (c .before .before))
+names-requires c κs =
+    let shaped = c .before .before in
+    free-in-heap (start (shaped .before .before .before .before)) (shape shaped)
 
 returns-3 : tie.Need-returns-3
 unfolding window
-returns-3 c = simp (shape (c .before .before .before .before), lt-leb _ _ (c .before .before .before .if2 .left), ap not (sym (c .before .names .ensures (c .before .before .before .before .before .before .before .before .args .roots .now))) ∙ c .if3 .taken)
+returns-3 c =
+    let rooted = c .before .before .before in
+    let shaped = rooted .before in
+    let s = shaped .before .before .before .before in
+    simp (
+      shape shaped,
+      lt-leb _ _ (rooted .if2 .left),
+      ap not (sym (c .before .names .ensures (s .args .roots .now))) ∙ c .if3 .taken,
+    )
 
 index-of-requires : tie.Need-index-of-requires
 index-of-requires c κs = search needs
@@ -69,7 +91,17 @@ cast-count c = search needs
 
 returns-4 : tie.Need-returns-4
 unfolding window
-returns-4 c = simp (shape (c .before .before .before .before .before .before .before), lt-leb _ _ (c .before .before .before .before .before .before .if2 .left), ap not (sym (c .before .before .before .before .names .ensures (c .before .before .before .before .before .before .before .before .before .before .before .args .roots .now))) ∙ c .before .before .before .if3 .left, sym (c .before .before .index-of .ensures), sym (c .count-of .ensures .0))
+returns-4 c =
+    let indexed = c .before .before in
+    let object = indexed .before in
+    let rooted = object .before .before .before in
+    simp (
+      shape (rooted .before),
+      lt-leb _ _ (rooted .if2 .left),
+      named object,
+      sym (indexed .index-of .ensures),
+      sym (c .count-of .ensures .0),
+    )
 
 pub find-spec : {M : Type 1} → statement M
 find-spec =

@@ -1,9 +1,10 @@
 -- `words::shape::bad_shape` meets its contract, test by test.
-use mathlib.Core.Path.{sym, _∙_}
+use mathlib.Core.Path.{_≡_, sym, _∙_}
+use mathlib.Core.Bool.{false}
 use borrow.Author.Tests.{lt-ltb, le-ltb}
 use native.Mathlib.Omega.{arith}
 use Prim.Native.Nat.{_-_, _/_}
-use Rattle.model.specs.Shape.{badShapeOf}
+use Rattle.model.specs.Shape.{badLength, badShapeOf}
 use Rattle.model.proofs.Shape.{GoodLength, good-length, first-most}
 use borrow.Author.Needs.{needs}
 use Rattle.words.proofs.shape.bad_shape.Statement.{statement}
@@ -14,8 +15,11 @@ use Rattle.words.proofs.shape.bad_length.Reads as bad-length-reads
 use Rattle.words.proofs.shape.first_of.Reads as first-of-reads
 
 -- what is known of the length once it is not refused
+sized : (c : tie.Else1) → badLength (c .before .before .args .words) ≡ false
+sized c = sym (c .before .bad-length .ensures) ∙ c .if1 .left
+
 good : (c : tie.Else1) → GoodLength (c .before .before .args .words)
-good c = good-length _ (sym (c .before .bad-length .ensures) ∙ c .if1 .left)
+good c = good-length _ (sized c)
 
 bad-length-requires : tie.Need-bad-length-requires
 bad-length-requires c κs = search needs
@@ -26,7 +30,7 @@ returns c = simp (sym (c .before .bad-length .ensures) ∙ c .if1 .taken)
 
 returns-2 : tie.Need-returns-2
 unfolding badShapeOf
-returns-2 c = simp (sym (c .before .before .bad-length .ensures) ∙ c .before .if1 .left, lt-ltb _ _ (c .if2 .taken))
+returns-2 c = simp (sized (c .before), lt-ltb _ _ (c .if2 .taken))
 
 sub-size : tie.Need-sub-size
 sub-size c = omega (arith, good (c .before))
@@ -36,14 +40,34 @@ first-of-requires c κs = good (c .before) .most
 
 returns-3 : tie.Need-returns-3
 unfolding badShapeOf
-returns-3 c = simp (sym (c .before .before .before .before .bad-length .ensures) ∙ c .before .before .before .if1 .left, le-ltb _ _ (c .before .before .if2 .left), lt-ltb _ _ (rw (c .before .first-of .ensures) at (c .if3 .taken)))
+returns-3 c =
+    let halved = c .before in
+    let rooted = halved .before in
+    simp (
+      sized (rooted .before),
+      le-ltb _ _ (rooted .if2 .left),
+      lt-ltb _ _ (rw (halved .first-of .ensures) at (c .if3 .taken)),
+    )
 
 add-result : tie.Need-add-result
-add-result c = record { fits = omega (arith, c .before .first-of .ensures, first-most ((c .before .before .before .before .before .args .words - 1) / 2) (c .before .before .before .before .before .args .«record» .half), good (c .before .before .before)) }
+add-result c =
+    let halved = c .before in
+    let length = halved .before .before in
+    let s = length .before .before in
+    let most = first-most ((s .args .words - 1) / 2) (s .args .«record» .half) in
+    record { fits = omega (arith, halved .first-of .ensures, most, good length) }
 
 returns-4 : tie.Need-returns-4
 unfolding badShapeOf
-returns-4 c = simp (sym (c .before .before .before .before .bad-length .ensures) ∙ c .before .before .before .if1 .left, le-ltb _ _ (c .before .before .if2 .left), le-ltb _ _ (rw (c .before .first-of .ensures) at (c .if3 .left)), c .before .first-of .ensures)
+returns-4 c =
+    let halved = c .before in
+    let rooted = halved .before in
+    simp (
+      sized (rooted .before),
+      le-ltb _ _ (rooted .if2 .left),
+      le-ltb _ _ (rw (halved .first-of .ensures) at (c .if3 .left)),
+      halved .first-of .ensures,
+    )
 
 pub bad-shape-spec : {M : Type 1} → statement M
 bad-shape-spec =
