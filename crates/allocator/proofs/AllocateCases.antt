@@ -1,56 +1,24 @@
--- Allocate by what its tests come to: refused, placed at once, or tried again after a collection. Assumes nothing.
-use Prim.Native.Nat.{ℕ, _+_, _-_, _/_, _≤_, _<_}
-use native.Mathlib.Numerals.{add-one}
+-- Allocate by what its tests come to: refused, or tried again after a collection. Where the object fits see `placing`. Assumes nothing.
+use Prim.Native.Nat.{ℕ, _+_, _-_, _≤_, _<_}
 use native.Mathlib.Omega.{arith}
-use mathlib.Core.Path.{_≡_, refl, ap, _∙_}
-use mathlib.Core.Bool.{Bool, true, false, cond}
-use lib.Dec.{ltb, leb}
-use mathlib.Core.List.{List}
-use lib.ListN.{length, set}
-use borrow.Author.Tests.{lt-ltb, le-ltb, le-leb, lt-leb, ltb-true, ltb-false, leb-false}
+use mathlib.Core.Path.{_≡_, ap, _∙_}
+use mathlib.Core.Bool.{true, false}
+use lib.ListN.{length}
+use borrow.Author.Tests.{lt-ltb, le-ltb, le-leb, lt-leb}
 use Rattle.model.specs.declared.Kind.{Kind}
 use Rattle.model.specs.declared.Refusal.the-variants as Why
 use Rattle.model.specs.declared.Answer.the-variants as Says
-use Rattle.model.specs.declared.Record.{Record}
-use Rattle.model.specs.Limits.{maxRoots, maxFields}
-use Rattle.model.specs.Words.{State, lent, firstOf, free}
+use Rattle.model.specs.Limits.{maxFields}
+use Rattle.model.specs.Words.{State}
 use Rattle.model.specs.Headers.{Layout}
-use Rattle.model.specs.Shape.{badLength, badShapeOf, badShape}
-use Rattle.model.specs.Objects.{address}
+use Rattle.model.specs.Shape.{badShape}
 use Rattle.model.specs.Soundness.{sound}
 use Rattle.model.specs.Collection.{collected}
 use Rattle.model.specs.Answers.{says, refuse}
 use Rattle.model.specs.Changes.{spare, placed}
 use Rattle.model.specs.Calls as Calls
-use Rattle.model.proofs.Tests.{never, or-none}
-use Rattle.model.proofs.Shape.{Shaped, shaped, good-length, first-in}
-use Rattle.runs.specs.Runs.{cleared}
-use Rattle.runs.proofs.RunLaws.{cleared-sets}
-use Rattle.allocator.specs.Placing.{MayPlace, MaySpare, spareOf, atOnce, retried}
-
--- ---- a new object
-
-module _ (Y : Layout) (s : State) (k : Kind) (n r : ℕ) where
-  placed-is : placed Y k n r s
-      ≡ lent (cleared (set (s .heap) (free s) (Y .header k n)) (free s + 1) n) (set (s .roots) r (address Y (free s))) (record { half = s .«record» .half; free = record { 0 = free s + (n + 1) } })
-  unfolding placed
-  placed-is = rw (cleared-sets, add-one (free s))
-
-  -- from what each call answers
-  pub placed-by : (header a : ℕ) (h₁ : List ℕ) → header ≡ Y .header k n → h₁ ≡ cleared (set (s .heap) (free s) header) (free s + 1) n → a ≡ address Y (free s)
-      → lent h₁ (set (s .roots) r a) (record { half = s .«record» .half; free = record { 0 = free s + (n + 1) } }) ≡ placed Y k n r s
-  placed-by header a h₁ e f g = rw (placed-is, f, e, g)
-
--- what its callers have: a shape that is not refused, and room
-pub may-spare : (s : State) → Shaped s → MaySpare (length (s .heap)) (s .«record»)
-may-spare s h = record { some = omega (arith, h .odd); few = omega (arith, h .odd, h .small); high = h .high }
-
-pub may-place : (s : State) (n r : ℕ) → Shaped s → r < length (s .roots) → n ≤ maxFields → n < spareOf (length (s .heap)) (s .«record») → MayPlace s n r
-may-place s n r h l c f =
-    let b = first-in s h in
-    record { room = omega (arith, b .1); words = omega (arith, h .odd, h .small); root = l; count = c }
-
--- ---- the cases
+use Rattle.placing.specs.Placing.{spareOf}
+use Rattle.allocator.specs.Retrying.{retried}
 
 module _ (Y : Layout) (k : Kind) (n r : ℕ) (s : State) where
   pub allocate-shape : badShape s ≡ true → Calls.allocate Y k n r s ≡ says (Says.Refused Why.Shape) s
@@ -68,10 +36,6 @@ module _ (Y : Layout) (k : Kind) (n r : ℕ) (s : State) where
       allocate-count c = rw (b, lt-leb (length (s .roots)) r l, lt-ltb maxFields n c)
 
       module _ (c : n ≤ maxFields) where
-        pub allocate-now : n < spare s → Calls.allocate Y k n r s ≡ says Says.Done (placed Y k n r s)
-        unfolding Calls.allocate refuse
-        allocate-now f = rw (b, lt-leb (length (s .roots)) r l, le-ltb maxFields n c, le-leb (n + 1) (spare s) (omega arith))
-
         pub allocate-retry : spare s ≤ n → Calls.allocate Y k n r s ≡ retried Y k n r s
         unfolding Calls.allocate refuse retried
         allocate-retry f = rw (b, lt-leb (length (s .roots)) r l, le-ltb maxFields n c, lt-leb (n + 1) (spare s) (omega arith))
@@ -92,40 +56,3 @@ module _ (Y : Layout) (k : Kind) (n r : ℕ) (s : State) where
     pub retried-done : n < m → (s″ : State) → s″ ≡ placed Y k n r s′ → says Says.Done s″ ≡ retried Y k n r s
     unfolding retried refuse
     retried-done f s″ u = rw (e, u, l, le-leb (n + 1) (spare (collected Y s)) (omega (arith, spare-is)))
-
--- ---- at once
-
--- of the numbers alone
-pub numbers-spare : (words roots : ℕ) (q : Record) → badShapeOf words roots q ≡ false → MaySpare words q
-unfolding badShapeOf
-numbers-spare words roots q h =
-    let S = (words - 1) / 2 in
-    let a = or-none _ (ltb (firstOf S (q .half) + S) (q .free .0)) h in
-    let b = or-none _ (ltb (q .free .0) (firstOf S (q .half))) (a .0) in
-    let c = or-none (badLength words) (ltb maxRoots roots) (b .0) in
-    let g = good-length words (c .0) in
-    record { some = omega (arith, g .odd); few = omega (arith, g .odd, g .most); high = ltb-false _ _ (a .1) }
-
--- a test that must fail before another holds
-not-then : (a b : Bool) → cond a false b ≡ true → (a ≡ false) × (b ≡ true)
-not-then true b h = never h refl
-not-then false b h = (refl, h)
-
-module _ (Y : Layout) (k : Kind) (n r : ℕ) (s : State) (e : atOnce (length (s .heap)) (length (s .roots)) (s .«record») n r ≡ true) where
-  pub at-once-shaped : badShape s ≡ false
-  at-once-shaped = not-then (badShape s) _ e .0
-
-  root : r < length (s .roots)
-  root = leb-false (length (s .roots)) r (not-then (leb (length (s .roots)) r) _ (not-then (badShape s) _ e .1) .0)
-
-  room : n < spareOf (length (s .heap)) (s .«record»)
-  room = ltb-true n _ (not-then (leb (length (s .roots)) r) _ (not-then (badShape s) _ e .1) .1)
-
-  count : n ≤ maxFields
-  count = let h = shaped s at-once-shaped in omega (arith, h .small, h .low, room)
-
-  pub at-once-place : MayPlace s n r
-  at-once-place = may-place s n r (shaped s at-once-shaped) root count room
-
-  pub at-once-done : Calls.allocate Y k n r s ≡ says Says.Done (placed Y k n r s)
-  at-once-done = allocate-now Y k n r s at-once-shaped root count room

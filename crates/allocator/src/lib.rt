@@ -7,11 +7,7 @@ ghost use Rattle.model.specs.Words.{lent};
 ghost use Rattle.model.specs.Headers as Layouts;
 ghost use Rattle.model.specs.Answers.{outcome};
 ghost use Rattle.model.specs.Calls as Calls;
-ghost use Rattle.allocator.specs.Placing.{retried};
-
-pub mod at_once;
-mod placing;
-
+ghost use Rattle.allocator.specs.Retrying.{retried};
 use model::Answer;
 use model::Answered;
 use model::Kind;

@@ -11,6 +11,7 @@ use model::Half;
 use model::Index;
 use model::Place;
 use model::Record;
+use model::Refusal;
 use numbers::number;
 
 #[repr(C)]
@@ -200,4 +201,19 @@ pub fn window_of(place: Place) -> CWindow
             count: 0,
         },
     }
+}
+
+// The word at a field number; or FIELD. It goes by the window's numbers, whatever they are, and by nothing else.
+pub fn word_at(heap: &[u32], window: CWindow, field: usize) -> CAnswer
+    ensures { λ r. ⌜ r ≡ Numbers.answer (told (Numbers.wordAt (now (heap .entry)) window field)) ⌝ }
+{
+    let count = window.count as usize;
+    if count <= field {
+        return answer(Answer::Refused(Refusal::Field));
+    }
+    let at = window.first as usize + field;
+    if heap.len() <= at {
+        return answer(Answer::Refused(Refusal::Field));
+    }
+    answer(Answer::Number(heap[at]))
 }

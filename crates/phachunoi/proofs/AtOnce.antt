@@ -15,8 +15,8 @@ use Rattle.model.specs.Answers.{says, told}
 use Rattle.model.specs.Calls.{allocate}
 use Rattle.model.specs.Sessions.{step}
 use Rattle.model.proofs.Tests.{never}
-use Rattle.allocator.specs.Placing.{atOnce}
-use Rattle.allocator.proofs.AllocateCases.{at-once-shaped}
+use Rattle.placing.specs.Placing.{atOnce}
+use Rattle.placing.proofs.PlacingLaws.{at-once-shaped}
 use Rattle.crossing.specs.declared.CRecord.{CRecord}
 use Rattle.crossing.specs.declared.CResult.{CResult}
 use Rattle.crossing.specs.Numbers.{given, called, result, noHalf, numbersOf}

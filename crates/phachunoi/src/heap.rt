@@ -61,8 +61,8 @@ pub extern "C" fn phachunoi_allocate_traced(
     ensures { λ r. ⌜ given r (now (heap .exit)) (now (roots .exit)) ≡ called Numbers.result (Calls.allocate Layouts.tuple Traced fields to) (now (heap .entry)) (now (roots .entry)) «record» ⌝ }
 {
     let now = record_of(record);
-    if allocator::at_once::fits(heap.len(), roots.len(), now, fields, to) {
-        return done_with(allocator::at_once::allocate(heap, roots, now, Kind::Traced, fields, to));
+    if placing::at_once::fits(heap.len(), roots.len(), now, fields, to) {
+        return done_with(placing::at_once::allocate(heap, roots, now, Kind::Traced, fields, to));
     }
     let done = allocator::allocate(heap, roots, record_of(record), Kind::Traced, fields, to);
     result(record, done)
@@ -80,15 +80,8 @@ pub extern "C" fn phachunoi_allocate_untraced(
     ensures { λ r. ⌜ given r (now (heap .exit)) (now (roots .exit)) ≡ called Numbers.result (Calls.allocate Layouts.tuple Untraced fields to) (now (heap .entry)) (now (roots .entry)) «record» ⌝ }
 {
     let now = record_of(record);
-    if allocator::at_once::fits(heap.len(), roots.len(), now, fields, to) {
-        return done_with(allocator::at_once::allocate(
-            heap,
-            roots,
-            now,
-            Kind::Untraced,
-            fields,
-            to,
-        ));
+    if placing::at_once::fits(heap.len(), roots.len(), now, fields, to) {
+        return done_with(placing::at_once::allocate(heap, roots, now, Kind::Untraced, fields, to));
     }
     let done = allocator::allocate(heap, roots, record_of(record), Kind::Untraced, fields, to);
     result(record, done)

@@ -8,11 +8,9 @@ ghost use Rattle.crossing.specs.Numbers as Numbers;
 use crossing::CAnswer;
 use crossing::CRecord;
 use crossing::CWindow;
-use crossing::answer;
 use crossing::record_of;
 use crossing::window_of;
-use model::Answer;
-use model::Refusal;
+use crossing::word_at;
 
 // Where the fields of the object that a root names stand, of either kind; or SHAPE, ROOT or OBJECT, and no words.
 #[no_mangle]
@@ -33,13 +31,5 @@ pub extern "C" fn phachunoi_open(
 pub extern "C" fn phachunoi_word(heap: &[u32], window: CWindow, field: usize) -> CAnswer
     ensures { λ r. ⌜ r ≡ Numbers.answer (told (Numbers.wordAt (now (heap .entry)) window field)) ⌝ }
 {
-    let count = window.count as usize;
-    if count <= field {
-        return answer(Answer::Refused(Refusal::Field));
-    }
-    let at = window.first as usize + field;
-    if heap.len() <= at {
-        return answer(Answer::Refused(Refusal::Field));
-    }
-    answer(Answer::Number(heap[at]))
+    word_at(heap, window, field)
 }

@@ -6,15 +6,16 @@ use Rattle.model.specs.Headers.{tuple}
 use Rattle.model.specs.Words.{State, lent}
 use Rattle.model.specs.Shape.{badShape}
 use Rattle.model.proofs.Shape.{shaped}
-use Rattle.allocator.proofs.AllocateCases.{allocate-shape, allocate-root, allocate-count, allocate-now, allocate-retry, may-spare, may-place}
+use Rattle.allocator.proofs.AllocateCases.{allocate-shape, allocate-root, allocate-count, allocate-retry}
+use Rattle.placing.proofs.PlacingLaws.{allocate-now, may-spare, may-place}
 use borrow.Author.Needs.{needs}
 use Rattle.allocator.proofs.allocate.Statement.{statement}
 use Rattle.allocator.proofs.allocate.Tie as tie
 use Rattle.allocator.proofs.allocate.Reads as reads
 use Rattle.allocator.proofs.allocate.Lts as lts
 use Rattle.allocator.proofs.retry.Reads as retry-reads
-use Rattle.allocator.proofs.placing.place.Reads as place-reads
-use Rattle.allocator.proofs.placing.spare_of.Reads as spare-of-reads
+use Rattle.placing.proofs.place.Reads as place-reads
+use Rattle.placing.proofs.spare_of.Reads as spare-of-reads
 use Rattle.words.proofs.shape.bad_shape.Reads as bad-shape-reads
 
 -- what the call was lent

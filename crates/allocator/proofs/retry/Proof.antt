@@ -7,7 +7,8 @@ use Rattle.model.specs.Words.{State, lent}
 use Rattle.model.specs.Soundness.{sound}
 use Rattle.model.specs.Collection.{collected}
 use Rattle.allocator.proofs.Left.{left-is, left-shaped, left-roots}
-use Rattle.allocator.proofs.AllocateCases.{may-spare, may-place, retried-damaged, retried-room, retried-done}
+use Rattle.allocator.proofs.AllocateCases.{retried-damaged, retried-room, retried-done}
+use Rattle.placing.proofs.PlacingLaws.{may-spare, may-place}
 use borrow.Author.Needs.{needs}
 use Rattle.allocator.proofs.retry.Statement.{statement}
 use Rattle.allocator.proofs.retry.Tie as tie
@@ -15,8 +16,8 @@ use Rattle.allocator.proofs.retry.Reads as reads
 use Rattle.allocator.proofs.retry.Lts as lts
 use Rattle.checker.proofs.is_sound.Reads as is-sound-reads
 use Rattle.engine.proofs.collect_sound.Reads as collect-sound-reads
-use Rattle.allocator.proofs.placing.place.Reads as place-reads
-use Rattle.allocator.proofs.placing.spare_of.Reads as spare-of-reads
+use Rattle.placing.proofs.place.Reads as place-reads
+use Rattle.placing.proofs.spare_of.Reads as spare-of-reads
 
 -- what the call was lent
 abbrev start : tie.Start → State

@@ -39,9 +39,10 @@ unfolding step
 collected-requires c κs =
     let called = c .before .before .before .before in
     let crossed = called .before in
-    let a = crossed .before .before .before .before .before .args in
+    let start = crossed .before .before .before .before .before in
+    let a = start .args in
     narrow (a .«record») (a .heap .now) (a .roots .now) Ask.Collect
-    (crossed .record-of .ensures) (called .collect .ensures) (omega arith)
+    (crossed .record-of .ensures) (called .collect .ensures) (omega (arith, start .good))
 
 pub phachunoi-collect-spec : {M : Type 1} → statement M
 phachunoi-collect-spec =

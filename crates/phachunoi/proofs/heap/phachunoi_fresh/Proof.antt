@@ -23,9 +23,10 @@ fresh-result-requires : tie.Need-fresh-result-requires
 fresh-result-requires c κs =
     let called = c .before .before in
     let crossed = called .before in
-    let a = crossed .before .before .before .before .args in
+    let start = crossed .before .before .before .before in
+    let a = start .args in
     fresh-narrow (a .heap .now) (crossed .record-of .result) (a .«record»)
-    (crossed .record-of .ensures) (called .fresh .ensures) (omega arith)
+    (crossed .record-of .ensures) (called .fresh .ensures) (omega (arith, start .good))
 
 same-length : tie.Need-same-length
 same-length c = search needs

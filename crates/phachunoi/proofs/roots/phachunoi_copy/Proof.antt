@@ -36,9 +36,10 @@ unfolding step
 result-requires c κs =
     let called = c .before .before in
     let crossed = called .before in
-    let a = crossed .before .before .before .before .args in
+    let start = crossed .before .before .before .before in
+    let a = start .args in
     narrow (a .«record») (a .heap .now) (a .roots .now) (Ask.Copy (a .from) (a .to))
-    (crossed .record-of .ensures) (called .copy .ensures) (omega arith)
+    (crossed .record-of .ensures) (called .copy .ensures) (omega (arith, start .good))
 
 pub phachunoi-copy-spec : {M : Type 1} → statement M
 phachunoi-copy-spec =

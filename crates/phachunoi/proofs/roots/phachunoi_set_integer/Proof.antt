@@ -29,9 +29,9 @@ unfolding step
 returns c =
     let called = c .before .before .before in
     let crossed = called .before in
-    let s = crossed .before .before .before .before in
-    let a = s .args in
-    let v = toZ-ofZ w64 (a .value) (s .fits .value) in
+    let start = crossed .before .before .before .before in
+    let a = start .args in
+    let v = toZ-ofZ w64 (a .value) (start .fits .value) in
     crosses result (a .«record») (a .heap .now) (a .roots .now) (Ask.SetInteger (a .to) (a .value))
     (crossed .record-of .ensures) (rw v at (called .set-integer .ensures)) (c .result .ensures)
 
@@ -40,11 +40,11 @@ unfolding step
 result-requires c κs =
     let called = c .before .before in
     let crossed = called .before in
-    let s = crossed .before .before .before .before in
-    let a = s .args in
-    let v = toZ-ofZ w64 (a .value) (s .fits .value) in
+    let start = crossed .before .before .before .before in
+    let a = start .args in
+    let v = toZ-ofZ w64 (a .value) (start .fits .value) in
     narrow (a .«record») (a .heap .now) (a .roots .now) (Ask.SetInteger (a .to) (a .value))
-    (crossed .record-of .ensures) (rw v at (called .set-integer .ensures)) (omega arith)
+    (crossed .record-of .ensures) (rw v at (called .set-integer .ensures)) (omega (arith, start .good))
 
 pub phachunoi-set-integer-spec : {M : Type 1} → statement M
 phachunoi-set-integer-spec =

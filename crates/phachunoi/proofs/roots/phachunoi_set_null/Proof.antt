@@ -36,9 +36,10 @@ unfolding step
 result-requires c κs =
     let called = c .before .before in
     let crossed = called .before in
-    let a = crossed .before .before .before .before .args in
+    let start = crossed .before .before .before .before in
+    let a = start .args in
     narrow (a .«record») (a .heap .now) (a .roots .now) (Ask.SetNull (a .to))
-    (crossed .record-of .ensures) (called .set-null .ensures) (omega arith)
+    (crossed .record-of .ensures) (called .set-null .ensures) (omega (arith, start .good))
 
 pub phachunoi-set-null-spec : {M : Type 1} → statement M
 phachunoi-set-null-spec =

@@ -3,14 +3,17 @@ ghost use mathlib.Core.Path.{_≡_};
 ghost use Rattle.model.specs.Words.{lent};
 ghost use Rattle.model.specs.Headers as Layouts;
 ghost use Rattle.model.specs.Changes.{placed};
-ghost use Rattle.allocator.specs.Placing.{MayPlace, MaySpare, spareOf};
+ghost use Rattle.placing.specs.Placing.{MayPlace, MaySpare, spareOf};
+
+pub mod at_once;
+
 use model::Index;
 use model::Kind;
 use model::Record;
 use words::tuple::Tuple;
 
 // The free words of the current half.
-pub(crate) fn spare_of(words: usize, record: Record) -> usize
+pub fn spare_of(words: usize, record: Record) -> usize
     requires { ⌜ MaySpare words «record» ⌝ }
     ensures { λ r. ⌜ r ≡ spareOf words «record» ⌝ }
 {
@@ -22,7 +25,7 @@ pub(crate) fn spare_of(words: usize, record: Record) -> usize
 }
 
 // Writes the header and the zeros at the free index, and the object's address into root `to`. Answers the new record.
-pub(crate) fn place(
+pub fn place(
     heap: &mut [u32],
     roots: &mut [u32],
     record: Record,

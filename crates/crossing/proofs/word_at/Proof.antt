@@ -1,15 +1,15 @@
--- `phachunoi::window::phachunoi_word` meets its contract, test by test.
+-- `crossing::word_at` meets its contract, test by test.
 use Prim.Native.Nat.{_+_}
 use native.Mathlib.Omega.{arith}
 use lib.ListN.{length}
 use borrow.Author.Tests.{le-leb, lt-leb}
 use Rattle.crossing.specs.Numbers.{wordAt}
 use borrow.Author.Needs.{needs}
-use Rattle.phachunoi.proofs.window.phachunoi_word.Statement.{statement}
-use Rattle.phachunoi.proofs.window.phachunoi_word.Tie as tie
-use Rattle.phachunoi.proofs.window.phachunoi_word.Reads as reads
-use Rattle.phachunoi.proofs.window.phachunoi_word.Lts as lts
+use Rattle.crossing.proofs.word_at.Statement.{statement}
+use Rattle.crossing.proofs.word_at.Tie as tie
+use Rattle.crossing.proofs.word_at.Reads as reads
+use Rattle.crossing.proofs.word_at.Lts as lts
 use Rattle.crossing.proofs.answer.Reads as answer-reads
 
 cast-count : tie.Need-cast-count
 cast-count c = search needs
@@ -65,8 +65,8 @@ returns-3 c =
     )
     (c .answer3 .ensures)
 
-pub phachunoi-word-spec : {M : Type 1} → statement M
-phachunoi-word-spec =
+pub word-at-spec : {M : Type 1} → statement M
+word-at-spec =
     tie.close
     (tie.spec
     cast-count

@@ -1,13 +1,13 @@
--- `allocator::at_once::fits` meets its contract, test by test.
+-- `placing::at_once::fits` meets its contract, test by test.
 use mathlib.Core.Path.{_∙_, sym}
 use borrow.Author.Tests.{le-leb, lt-leb}
-use Rattle.allocator.proofs.AllocateCases.{numbers-spare}
+use Rattle.placing.proofs.PlacingLaws.{numbers-spare}
 use borrow.Author.Needs.{needs}
-use Rattle.allocator.proofs.at_once.fits.Statement.{statement}
-use Rattle.allocator.proofs.at_once.fits.Tie as tie
-use Rattle.allocator.proofs.at_once.fits.Reads as reads
-use Rattle.allocator.proofs.at_once.fits.Lts as lts
-use Rattle.allocator.proofs.placing.spare_of.Reads as spare-of-reads
+use Rattle.placing.proofs.at_once.fits.Statement.{statement}
+use Rattle.placing.proofs.at_once.fits.Tie as tie
+use Rattle.placing.proofs.at_once.fits.Reads as reads
+use Rattle.placing.proofs.at_once.fits.Lts as lts
+use Rattle.placing.proofs.spare_of.Reads as spare-of-reads
 use Rattle.words.proofs.shape.bad_shape.Reads as bad-shape-reads
 
 bad-shape-requires : tie.Need-bad-shape-requires

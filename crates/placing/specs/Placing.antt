@@ -35,10 +35,3 @@ pub record MaySpare (words : ℕ) (q : Record) : Type 0 where
 -- nothing refuses an allocation, and its words are free: SHAPE, ROOT, and n + 1 words; COUNT is far above what fits
 abbrev pub atOnce : ℕ → ℕ → Record → ℕ → ℕ → Bool
 atOnce words roots q n r = cond (badShapeOf words roots q) false (cond (leb roots r) false (ltb n (spareOf words q)))
-
--- the collection, and another try
-unfoldable pub retried : Layout → Kind → ℕ → ℕ → State → Outcome
-retried Y k n r s =
-    refuse (not (sound Y s)) Why.Damaged s
-    (refuse (not (fits n (collected Y s))) Why.Room (collected Y s)
-    (says Says.Done (placed Y k n r (collected Y s))))

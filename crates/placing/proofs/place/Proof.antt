@@ -1,16 +1,16 @@
--- `allocator::placing::place` meets its contract: its three stores are those of `placed`.
+-- `placing::place` meets its contract: its three stores are those of `placed`.
 use mathlib.Core.Path.{ap, _∙_}
 use native.Mathlib.Omega.{arith}
 use lib.ListN.{length, length-set}
 use Rattle.model.specs.Headers.{tuple}
 use Rattle.model.specs.Words.{lent}
 use Rattle.runs.proofs.RunLaws.{cleared-length}
-use Rattle.allocator.proofs.AllocateCases.{placed-by}
+use Rattle.placing.proofs.PlacingLaws.{placed-by}
 use borrow.Author.Needs.{needs}
-use Rattle.allocator.proofs.placing.place.Statement.{statement}
-use Rattle.allocator.proofs.placing.place.Tie as tie
-use Rattle.allocator.proofs.placing.place.Reads as reads
-use Rattle.allocator.proofs.placing.place.Lts as lts
+use Rattle.placing.proofs.place.Statement.{statement}
+use Rattle.placing.proofs.place.Tie as tie
+use Rattle.placing.proofs.place.Reads as reads
+use Rattle.placing.proofs.place.Lts as lts
 use Rattle.runs.proofs.clear.Reads as clear-reads
 use Rattle.words.proofs.tuple.Tuple.address_of.Reads as address-of-reads
 use Rattle.words.proofs.tuple.Tuple.header.Reads as header-reads

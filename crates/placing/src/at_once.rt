@@ -8,9 +8,9 @@ ghost use Rattle.model.specs.Headers as Layouts;
 ghost use Rattle.model.specs.Answers.{says};
 ghost use Rattle.model.specs.declared.Answer.the-variants as Says;
 ghost use Rattle.model.specs.Calls as Calls;
-ghost use Rattle.allocator.specs.Placing.{atOnce};
-use crate::placing::place;
-use crate::placing::spare_of;
+ghost use Rattle.placing.specs.Placing.{atOnce};
+use crate::place;
+use crate::spare_of;
 use model::Kind;
 use model::Record;
 

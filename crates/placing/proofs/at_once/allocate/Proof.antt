@@ -1,13 +1,13 @@
--- `allocator::at_once::allocate` meets its contract: the object is placed.
+-- `placing::at_once::allocate` meets its contract: the object is placed.
 use Rattle.model.specs.Headers.{tuple}
 use Rattle.model.specs.Words.{lent}
-use Rattle.allocator.proofs.AllocateCases.{at-once-place, at-once-done}
+use Rattle.placing.proofs.PlacingLaws.{at-once-place, at-once-done}
 use borrow.Author.Needs.{needs}
-use Rattle.allocator.proofs.at_once.allocate.Statement.{statement}
-use Rattle.allocator.proofs.at_once.allocate.Tie as tie
-use Rattle.allocator.proofs.at_once.allocate.Reads as reads
-use Rattle.allocator.proofs.at_once.allocate.Lts as lts
-use Rattle.allocator.proofs.placing.place.Reads as place-reads
+use Rattle.placing.proofs.at_once.allocate.Statement.{statement}
+use Rattle.placing.proofs.at_once.allocate.Tie as tie
+use Rattle.placing.proofs.at_once.allocate.Reads as reads
+use Rattle.placing.proofs.at_once.allocate.Lts as lts
+use Rattle.placing.proofs.place.Reads as place-reads
 
 place-requires : tie.Need-place-requires
 place-requires c κs =

@@ -1,12 +1,12 @@
--- `allocator::placing::spare_of` meets its contract: the half ends within the heap.
+-- `placing::spare_of` meets its contract: the half ends within the heap.
 use Prim.Native.Nat.{_-_, _/_}
 use native.Mathlib.Omega.{arith}
 use Rattle.model.proofs.Shape.{first-most}
 use borrow.Author.Needs.{needs}
-use Rattle.allocator.proofs.placing.spare_of.Statement.{statement}
-use Rattle.allocator.proofs.placing.spare_of.Tie as tie
-use Rattle.allocator.proofs.placing.spare_of.Reads as reads
-use Rattle.allocator.proofs.placing.spare_of.Lts as lts
+use Rattle.placing.proofs.spare_of.Statement.{statement}
+use Rattle.placing.proofs.spare_of.Tie as tie
+use Rattle.placing.proofs.spare_of.Reads as reads
+use Rattle.placing.proofs.spare_of.Lts as lts
 use Rattle.words.proofs.shape.first_of.Reads as first-of-reads
 
 sub-size : tie.Need-sub-size
