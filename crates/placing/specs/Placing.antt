@@ -1,20 +1,12 @@
--- What placing an object asks of the numbers, and what is left to do of an allocation once its object does not fit.
+-- What placing an object asks of the numbers, and when an allocation is done at once.
 use Prim.Native.Nat.{ℕ, _+_, _-_, _/_, _≤_, _<_}
-use mathlib.Core.Bool.{Bool, false, not, cond}
+use mathlib.Core.Bool.{Bool, false, cond}
 use lib.Dec.{ltb, leb}
 use lib.ListN.{length}
-use Rattle.model.specs.declared.Kind.{Kind}
 use Rattle.model.specs.declared.Record.{Record}
-use Rattle.model.specs.declared.Refusal.the-variants as Why
-use Rattle.model.specs.declared.Answer.the-variants as Says
 use Rattle.model.specs.Limits.{maxWords, maxFields}
 use Rattle.model.specs.Shape.{badShapeOf}
 use Rattle.model.specs.Words.{State, firstOf, free}
-use Rattle.model.specs.Headers.{Layout}
-use Rattle.model.specs.Soundness.{sound}
-use Rattle.model.specs.Collection.{collected}
-use Rattle.model.specs.Answers.{Outcome, says, refuse}
-use Rattle.model.specs.Changes.{fits, placed}
 
 pub record MayPlace (s : State) (n r : ℕ) : Type 0 where
   pub room : free s + (n + 1) ≤ length (s .heap)
