@@ -42,7 +42,8 @@ module _ (Y : Layout) (p : Part) where
   mark-length zero H i = refl
   mark-length (suc n) H i =
       ⊎-elim
-      (λ (e : (ltb i (p .free .0) && Y .isHeader (at H i)) ≡ true). rw e (mark-length n (set H (markAt p i) 1) (i + size Y H i) ∙ length-set H (markAt p i) 1))
+      (λ (e : (ltb i (p .free .0) && Y .isHeader (at H i)) ≡ true).
+      rw e (mark-length n (set H (markAt p i) 1) (i + size Y H i) ∙ length-set H (markAt p i) 1))
       (λ (e : (ltb i (p .free .0) && Y .isHeader (at H i)) ≡ false). rw e)
       (by-test (ltb i (p .free .0) && Y .isHeader (at H i)))
 
@@ -81,11 +82,13 @@ module _ (Y : Layout) (p : Part) where
         (rw (length-take n (drop i H′), length-drop i H′, length-take n (drop i H), length-drop i H, s))
         (λ k b.
         let c : k < n = omega (arith, rw (length-take n (drop i H′)) at b) in
-        getD-take n (drop i H′) k 0 c ∙ getD-drop i H′ k 0 ∙ agree (i + k) (omega arith) (omega arith) ∙ sym (getD-take n (drop i H) k 0 c ∙ getD-drop i H k 0))
+        getD-take n (drop i H′) k 0 c ∙ getD-drop i H′ k 0 ∙ agree (i + k) (omega arith) (omega arith)
+        ∙ sym (getD-take n (drop i H) k 0 c ∙ getD-drop i H k 0))
 
     pub fields-agree : length H′ ≡ length H → (i : ℕ) → p .first .0 ≤ i → i + size Y H i ≤ p .free .0 → fieldWords Y H′ i ≡ fieldWords Y H i
     fields-agree s i l m =
-        ap (λ (w : ℕ). run H′ (i + 1) (Y .countOf w)) (agree i l (omega arith)) ∙ run-agree s (i + 1) (fieldCount Y H i) (omega arith) (omega arith)
+        ap (λ (w : ℕ). run H′ (i + 1) (Y .countOf w)) (agree i l (omega arith))
+        ∙ run-agree s (i + 1) (fieldCount Y H i) (omega arith) (omega arith)
 
   module _ (apart : Apart (p .first .0) (p .marks .0) (usedWords p)) where
     -- a used word is no mark's place
@@ -114,7 +117,8 @@ module _ (Y : Layout) (p : Part) where
         let no : eqb i (p .free .0) ≡ false = ne-eqb i (p .free .0) (λ q. omega arith) in
         ⊎-elim
         (λ (b : Y .isHeader (at H i) ≡ true).
-        rw (size-agree H′ H i (g i l t), g i l t, d, b, no) (mark-stop H n (set H′ (markAt p i) 1) (i + size Y H i) (omega arith) (set-agree H′ H i l t g)))
+        rw (size-agree H′ H i (g i l t), g i l t, d, b, no)
+        (mark-stop H n (set H′ (markAt p i) 1) (i + size Y H i) (omega arith) (set-agree H′ H i l t g)))
         (λ (b : Y .isHeader (at H i) ≡ false). rw (g i l t, d, b, no))
         (by-test (Y .isHeader (at H i))))
         (λ (d : ltb i (p .free .0) ≡ false).
@@ -135,7 +139,8 @@ module _ (Y : Layout) (p : Part) where
         let s = tiles-step Y H (p .free .0) n i t m in
         let hs = headersFrom Y H (p .free .0) n (i + size Y H i) in
         rw (size-agree H′ H i (g i l m), g i l m, d, s .0)
-        (mark-marks H n (set H′ (markAt p i) 1) (i + size Y H i) x (omega arith) (set-agree H′ H i l m g) (s .1) (rw (length-set H′ (markAt p i) 1) w) a b
+        (mark-marks H n (set H′ (markAt p i) 1) (i + size Y H i) x (omega arith) (set-agree H′ H i l m g) (s .1)
+        (rw (length-set H′ (markAt p i) 1) w) a b
         ∙ ⊎-elim
         (λ (e : x ≡ i). rw (e, getD-set-same H′ (markAt p i) 1 0 (omega arith), eq-eqb i i refl) (or-true (mem i hs)))
         (λ (e : x ≡ i → ⊥). rw (getD-set-other H′ (markAt p i) (markAt p x) 1 0 (omega arith), ne-eqb x i e))

@@ -25,7 +25,8 @@ use Rattle.marks.specs.Marks.{Fits, Halves, part, usedWords, partOf, Marking, m
 use Rattle.checker.proofs.SoundByMarks.{lengths, stop-is, marked-tiled, halves, fits, apart, sound-dirty, sound-clean, heap-restored}
 
 -- ---- the part of a record
-pub part-is : (S : ℕ) (q : Record) (i m : ℕ) (f : Half) → i ≡ firstOf S (q .half) → f ≡ other (q .half) → m ≡ firstOf S f → part i (q .free .0) m ≡ partOf S q
+pub part-is : (S : ℕ) (q : Record) (i m : ℕ) (f : Half) → i ≡ firstOf S (q .half) → f ≡ other (q .half) → m ≡ firstOf S f
+    → part i (q .free .0) m ≡ partOf S q
 part-is S q i m f a b c = ap (λ (x : ℕ). part x (q .free .0) m) a ∙ ap (part (firstOf S (q .half)) (q .free .0)) (c ∙ ap (firstOf S) b)
 
 -- ---- the words around the used part
@@ -34,7 +35,8 @@ module _ (H : List ℕ) (p : Part) (S : ℕ) where
   unfolding isZeroAround
   around-first n = rw (ne-eqb (at H 0) 0 n)
 
-  around-idle : at H 0 ≡ 0 → (b : Bool) → b ≡ all isNull (run H (p .marks .0) S) → isZeroAround H p S ≡ (b && allZero H (p .free .0) (p .first .0 + S))
+  around-idle : at H 0 ≡ 0 → (b : Bool) → b ≡ all isNull (run H (p .marks .0) S)
+      → isZeroAround H p S ≡ (b && allZero H (p .free .0) (p .first .0 + S))
   unfolding isZeroAround
   around-idle z b e = let s : p .marks .0 + S - p .marks .0 ≡ S = omega arith in rw (s, eq-eqb (at H 0) 0 z, e)
 
@@ -50,7 +52,8 @@ module _ (Y : Layout) (H roots : List ℕ) (p : Part) where
   unfolding allAreValuesByMarks
   values-bad e = rw (← (rw (take-length roots) at e))
 
-  pub values-good : true ≡ all (isValueByMarks Y H p) (run roots 0 (length roots)) → (r : Bool) → r ≡ all (fieldsAreValuesByMarks Y H p) (headersOf Y H p)
+  pub values-good : true ≡ all (isValueByMarks Y H p) (run roots 0 (length roots)) → (r : Bool)
+      → r ≡ all (fieldsAreValuesByMarks Y H p) (headersOf Y H p)
       → r ≡ allAreValuesByMarks Y H roots p
   unfolding allAreValuesByMarks
   values-good e r g = rw (← (rw (take-length roots) at e)) g
@@ -74,7 +77,8 @@ module _ (Y : Layout) (H : List ℕ) (p : Part) (H′ : List ℕ) (stop : ℕ) (
   unfolding usedPartSound
   stopped-short roots n = rw (← is, ne-eqb stop (p .free .0) n)
 
-  pub stopped-free : (roots : List ℕ) → stop ≡ p .free .0 → (r : Bool) → r ≡ allAreValuesByMarks Y H′ roots p → r ≡ usedPartSound Y H roots p
+  pub stopped-free : (roots : List ℕ) → stop ≡ p .free .0 → (r : Bool) → r ≡ allAreValuesByMarks Y H′ roots p
+      → r ≡ usedPartSound Y H roots p
   unfolding usedPartSound
   stopped-free roots e r g = rw (← is, eq-eqb stop (p .free .0) e) g
 
@@ -100,21 +104,25 @@ module _ (Y : Layout) (H roots : List ℕ) (q : Record) where
         → r ≡ usedPartSound Y H roots p → H′ ≡ cleared (marked Y H p .heap) (p .marks .0) (usedWords p)
         → (r ≡ sound Y (lent H roots q)) × (H′ ≡ H)
     sound-used d r H′ a b =
-        let c : isZeroAround H (partOf (halfWords H) q) (halfWords H) ≡ true = sym (d ∙ ap (λ (p : Part). isZeroAround H p (halfWords H)) is) in (
+        let c : isZeroAround H (partOf (halfWords H) q) (halfWords H) ≡ true =
+        sym (d ∙ ap (λ (p : Part). isZeroAround H p (halfWords H)) is) in (
           a ∙ ap (λ (p : Part). usedPartSound Y H roots p) is ∙ sym (sound-clean Y (lent H roots q) fair c),
           b ∙ ap (λ (p : Part). cleared (marked Y H p .heap) (p .marks .0) (usedWords p)) is ∙ heap-restored Y (lent H roots q) fair c,
         )
 
   -- ---- the call check
-  pub check-refused : badShape (lent H roots q) ≡ true → outcome (record { answer = Says.Refused Why.Shape; «record» = q }) H roots ≡ check Y (lent H roots q)
+  pub check-refused : badShape (lent H roots q) ≡ true
+      → outcome (record { answer = Says.Refused Why.Shape; «record» = q }) H roots ≡ check Y (lent H roots q)
   unfolding check refuse
   check-refused b = rw b
 
   module _ (fair : badShape (lent H roots q) ≡ false) (H′ : List ℕ) (same : H′ ≡ H) where
-    pub check-sound : true ≡ sound Y (lent H roots q) → outcome (record { answer = Says.Sound; «record» = q }) H′ roots ≡ check Y (lent H roots q)
+    pub check-sound : true ≡ sound Y (lent H roots q) → outcome (record { answer = Says.Sound; «record» = q }) H′ roots
+        ≡ check Y (lent H roots q)
     unfolding check refuse
     check-sound e = rw (same, fair, ← e)
 
-    pub check-unsound : false ≡ sound Y (lent H roots q) → outcome (record { answer = Says.Unsound; «record» = q }) H′ roots ≡ check Y (lent H roots q)
+    pub check-unsound : false ≡ sound Y (lent H roots q)
+        → outcome (record { answer = Says.Unsound; «record» = q }) H′ roots ≡ check Y (lent H roots q)
     unfolding check refuse
     check-unsound e = rw (same, fair, ← e)

@@ -81,14 +81,22 @@ module _ (Y : Layout) (H : List ℕ) (p : Part) (fits : Fits H p) (apart : Apart
           (λ (b : ltb i (p .free .0) ≡ true).
           let l = leb-true (p .first .0) i a in
           let m = ltb-true i (p .free .0) b in
-          let z : eqb (at H (markAt p i)) 1 ≡ false = ne-eqb (at H (markAt p i)) 1 (λ q. omega (arith, zeros (markAt p i) (omega arith) (omega arith))) in
+          let z : eqb (at H (markAt p i)) 1 ≡ false =
+          ne-eqb (at H (markAt p i)) 1 (λ q. omega (arith, zeros (markAt p i) (omega arith) (omega arith))) in
           rw (a, b)
-          (mark-marks Y p apart H (usedWords p) H (p .first .0) i (omega arith) (λ j a b. refl) tiled (fits .marks) l m ∙ rw z (or-false (mem i hs))))
+          (mark-marks Y p apart H (usedWords p) H (p .first .0) i (omega arith) (λ j a b. refl) tiled (fits .marks) l m
+          ∙ rw z (or-false (mem i hs))))
           (λ (b : ltb i (p .free .0) ≡ false).
-          rw (a, b) (none i (λ t. let w = headers-tile Y H (p .free .0) (usedWords p) (p .first .0) i tiled t .within in let m = ltb-false i (p .free .0) b in omega arith)))
+          rw (a, b) (none i (λ t.
+          let w = headers-tile Y H (p .free .0) (usedWords p) (p .first .0) i tiled t .within in
+          let m = ltb-false i (p .free .0) b in
+          omega arith)))
           (by-test (ltb i (p .free .0))))
           (λ (a : leb (p .first .0) i ≡ false).
-          rw a (none i (λ t. let w = headers-tile Y H (p .free .0) (usedWords p) (p .first .0) i tiled t .from in let m = leb-false (p .first .0) i a in omega arith)))
+          rw a (none i (λ t.
+          let w = headers-tile Y H (p .free .0) (usedWords p) (p .first .0) i tiled t .from in
+          let m = leb-false (p .first .0) i a in
+          omega arith)))
           (by-test (leb (p .first .0) i))
         where
           none : (i : ℕ) → (In i hs → ⊥) → false ≡ mem i hs
@@ -106,7 +114,8 @@ module _ (Y : Layout) (H : List ℕ) (p : Part) (fits : Fits H p) (apart : Apart
           let w = t .within in
           ap (λ (w : ℕ). not (isTraced (Y .kindOf w)) || all (isValueByMarks Y M p) (fieldWords Y M i)) (agree i l (omega arith))
           ∙ ap (λ (ws : List ℕ). not (isTraced (kind Y H i)) || all (isValueByMarks Y M p) ws) (fields-agree Y p M H agree lengths i l w)
-          ∙ ap (λ (b : Bool). not (isTraced (kind Y H i)) || b) (all-same (isValueByMarks Y M p) (isValue Y hs) (fieldWords Y H i) (λ x _. value-is x))
+          ∙ ap (λ (b : Bool). not (isTraced (kind Y H i)) || b)
+          (all-same (isValueByMarks Y M p) (isValue Y hs) (fieldWords Y H i) (λ x _. value-is x))
 
       all-are : (roots : List ℕ) → allAreValuesByMarks Y M roots p ≡ (all (isValue Y hs) roots && all (fieldsAreValues Y H hs) hs)
       unfolding allAreValuesByMarks
@@ -117,7 +126,8 @@ module _ (Y : Layout) (H : List ℕ) (p : Part) (fits : Fits H p) (apart : Apart
             all-same (fieldsAreValuesByMarks Y M p) (fieldsAreValues Y H hs) hs fields-are,
           )
 
-    used-part-is : (roots : List ℕ) → usedPartSound Y H roots p ≡ (isTiledPart Y H p && (all (isValue Y hs) roots && all (fieldsAreValues Y H hs) hs))
+    used-part-is : (roots : List ℕ) → usedPartSound Y H roots p
+        ≡ (isTiledPart Y H p && (all (isValue Y hs) roots && all (fieldsAreValues Y H hs) hs))
     unfolding usedPartSound
     used-part-is roots =
         ⊎-elim
@@ -165,7 +175,10 @@ module _ (Y : Layout) (s : State) (fair : badShape s ≡ false) where
       go B e = rw e (inr (omega (arith, rw e at (shape .high))))
 
   -- `sound`, in the order of the code's tests
-  sound-parted : sound Y s ≡ (zeroAround && (isTiled Y s && (all (isValue Y (headers Y s)) (s .roots) && all (fieldsAreValues Y (s .heap) (headers Y s)) (headers Y s))))
+  sound-parted : sound Y s
+      ≡ (zeroAround
+      && (isTiled Y s
+      && (all (isValue Y (headers Y s)) (s .roots) && all (fieldsAreValues Y (s .heap) (headers Y s)) (headers Y s))))
   unfolding sound isZeroAround
   sound-parted =
       let H = s .heap in
@@ -187,7 +200,8 @@ module _ (Y : Layout) (s : State) (fair : badShape s ≡ false) where
     unfolding isZeroAround
     idle k l m =
         let H = s .heap in
-        let a = and-both (isNull (at H 0) && allZero H (otherFirst s) (otherFirst s + halfWords H)) (allZero H (free s) (firstWord s + halfWords H)) clean in
+        let a = and-both (isNull (at H 0) && allZero H (otherFirst s) (otherFirst s + halfWords H))
+        (allZero H (free s) (firstWord s + halfWords H)) clean in
         let b = and-both (isNull (at H 0)) (allZero H (otherFirst s) (otherFirst s + halfWords H)) (a .0) in
         zeros-at H (otherFirst s) (otherFirst s + halfWords H) k (other-in s shape .1) (b .1) l (omega (arith, shape .high, shape .low))
 

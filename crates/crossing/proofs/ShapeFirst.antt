@@ -26,7 +26,8 @@ pub nowhere-bad : (H R : List ℕ) → badShape (lent H R nowhere) ≡ true
 unfolding badShapeOf
 nowhere-bad H R =
     let S = halfWords H in
-    or-left (badLength (length H) || ltb maxRoots (length R) || true) (ltb (1 + S) 0) (or-right (badLength (length H) || ltb maxRoots (length R)) true refl)
+    or-left (badLength (length H) || ltb maxRoots (length R) || true) (ltb (1 + S) 0)
+    (or-right (badLength (length H) || ltb maxRoots (length R)) true refl)
 
 refused : {b : Bool} {k : Refusal} {s : State} (next : Outcome) → b ≡ true → refuse b k s next ≡ says (Says.Refused k) s
 unfolding refuse
@@ -34,7 +35,8 @@ refused next e = rw e
 
 module _ (Y : Layout) (s : State) (bad : badShape s ≡ true) where
   pub shape-first : (k : Call) → step Y k s ≡ says (Says.Refused Why.Shape) s
-  unfolding step Calls.collect Calls.check Calls.allocate Calls.setInteger Calls.setNull Calls.copy Calls.load Calls.store Calls.rawRead Calls.rawWrite Calls.same Calls.inspect
+  unfolding step Calls.collect Calls.check Calls.allocate Calls.setInteger Calls.setNull Calls.copy Calls.load Calls.store
+      Calls.rawRead Calls.rawWrite Calls.same Calls.inspect
   shape-first Ask.Collect = refused _ bad
   shape-first Ask.Check = refused _ bad
   shape-first (Ask.Allocate k n r) = refused _ bad

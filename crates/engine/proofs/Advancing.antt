@@ -22,7 +22,8 @@ use Rattle.model.proofs.Middle.{header-outside, distinct-fits}
 use Rattle.runs.proofs.RunLaws.{Outside}
 use Rattle.engine.proofs.Midway.{Midway}
 
-module _ (Y : Layout) (s : State) (v : Sound Y s) (o : List ℕ) (p : ℕ) (h : List ℕ) (M : Midway Y s o p h) (l : p < length (packed (cells Y (s .heap)) o)) where
+module _ (Y : Layout) (s : State) (v : Sound Y s) (o : List ℕ) (p : ℕ) (h : List ℕ) (M : Midway Y s o p h)
+    (l : p < length (packed (cells Y (s .heap)) o)) where
   abbrev t : ℕ
   t = otherFirst s
 
@@ -45,7 +46,9 @@ module _ (Y : Layout) (s : State) (v : Sound Y s) (o : List ℕ) (p : ℕ) (h : 
             (λ (z : j ≡ p → ⊥). M .done j (omega arith)) (same? j p);
         todo = λ j q k. M .todo j (omega arith) k;
         named = λ j i q e. ⊎-elim
-            (λ (z : j ≡ p). absurd (no-some i (ap (cellLeads Y) (sym (ap (λ (y : ℕ). getD (packed (cells Y (s .heap)) o) y (still 0)) z ∙ c)) ∙ e)))
+            (λ (z : j ≡ p).
+            absurd (no-some i
+            (ap (cellLeads Y) (sym (ap (λ (y : ℕ). getD (packed (cells Y (s .heap)) o) y (still 0)) z ∙ c)) ∙ e)))
             (λ (z : j ≡ p → ⊥). M .named j i (omega arith) e) (same? j p);
         heads = M .heads;
         once = M .once;
@@ -56,14 +59,17 @@ module _ (Y : Layout) (s : State) (v : Sound Y s) (o : List ℕ) (p : ℕ) (h : 
   apart : (x : ℕ) → Outside t (halfWords (s .heap)) x → x ≡ t + p → ⊥
   apart x out z = ⊎-elim (λ (a : x < t). omega arith) (λ (a : t + halfWords (s .heap) ≤ x). omega (arith, room)) out
 
-  pub write : (x : ℕ) → x ≡ settle Y (s .heap) o t here → ((i : ℕ) → cellLeads Y here ≡ some i → In i o) → Midway Y s o (suc p) (set h (t + p) x)
+  pub write : (x : ℕ) → x ≡ settle Y (s .heap) o t here → ((i : ℕ) → cellLeads Y here ≡ some i → In i o)
+      → Midway Y s o (suc p) (set h (t + p) x)
   write x e n =
       let i : t + p < length h = omega (arith, room, M .same, other-in s (v .shape)) in
       record {
         same = simp length-set (M .same);
         kept = λ y out m. getD-set-other h (t + p) y x 0 (apart y out) ∙ M .kept y out m;
         mark = λ y m.
-            getD-set-other h (t + p) y x 0 (apart y (subst (Outside t (halfWords (s .heap))) (add-zero y) (header-outside Y s v y 0 (M .heads y m) (omega arith))))
+            getD-set-other h (t + p) y x 0
+            (apart y (subst (Outside t (halfWords (s .heap))) (add-zero y)
+            (header-outside Y s v y 0 (M .heads y m) (omega arith))))
             ∙ M .mark y m;
         done = λ j q. ⊎-elim
             (λ (z : j ≡ p). rw z (getD-set-same h (t + p) x 0 i ∙ e))

@@ -26,7 +26,8 @@ module _ (Y : Layout) (K : Lawful Y) (s : State) (e : sound Y s ≡ true) where
   pub shape : Shaped s
   shape = v .shape
 
-  module _ (old new : ℕ) (half : Half) (i : half ≡ other (s .«record» .half)) (o : old ≡ firstOf (halfWords (s .heap)) (s .«record» .half)) (n : new ≡ firstOf (halfWords (s .heap)) half) where
+  module _ (old new : ℕ) (half : Half) (i : half ≡ other (s .«record» .half))
+      (o : old ≡ firstOf (halfWords (s .heap)) (s .«record» .half)) (n : new ≡ firstOf (halfWords (s .heap)) half) where
     new-is : new ≡ otherFirst s
     new-is = n ∙ ap (firstOf (halfWords (s .heap))) i
 
@@ -48,10 +49,12 @@ module _ (Y : Layout) (K : Lawful Y) (s : State) (e : sound Y s ≡ true) where
       pub end-high : end - new ≤ maxHalf
       end-high = omega (arith, end-is, live-is Y s v, order-fits Y s v, v .shape .small)
 
-      pub collect-is : says (Says.Live (end - new)) (lent h′ rs′ (record { half = half; free = record { 0 = end } })) ≡ says (Says.Live (live Y s)) (collected Y s)
+      pub collect-is : says (Says.Live (end - new)) (lent h′ rs′ (record { half = half; free = record { 0 = end } }))
+          ≡ says (Says.Live (live Y s)) (collected Y s)
       collect-is =
           ap (λ (x : ℕ). says (Says.Live x) (lent h′ rs′ (record { half = half; free = record { 0 = end } }))) (omega (arith, end-is))
           ∙ ap (λ (x : State). says (Says.Live (live Y s)) x)
           (ap (λ (x : Half). lent h′ rs′ (record { half = x; free = record { 0 = end } })) i
-          ∙ ap (λ (u : Emptied). lent (u .heap) (u .roots) (record { half = other (s .«record» .half); free = record { 0 = u .free } })) there
+          ∙ ap (λ (u : Emptied).
+          lent (u .heap) (u .roots) (record { half = other (s .«record» .half); free = record { 0 = u .free } })) there
           ∙ ended-is Y K s v)

@@ -60,7 +60,8 @@ module _ (Y : Layout) (H : List ℕ) where
     }
 
   -- between two objects, at the header of k
-  module _ (o : List ℕ) (p : ℕ) (gone : List ℕ) (k : ℕ) (rest : List ℕ) (C : Cursor Y H o p 0 0 gone (k ∷ rest)) (whole : k + size Y H k ≤ length H) where
+  module _ (o : List ℕ) (p : ℕ) (gone : List ℕ) (k : ℕ) (rest : List ℕ) (C : Cursor Y H o p 0 0 gone (k ∷ rest))
+      (whole : k + size Y H k ≤ length H) where
     words : length (cells Y H k) ≡ size Y H k
     words = cells-length Y H k whole
 
@@ -98,7 +99,11 @@ module _ (Y : Layout) (H : List ℕ) where
         rw t (record {
           split = next-split;
           stands = omega (arith, next-words);
-          fields = λ d l. (at H (k + 1 + d), field-here d l ∙ ap (λ (x : Kind). fieldCell x (at H (k + 1 + d))) (kind-traced (kind Y H k) t));
+          fields =
+              λ d l. (
+                at H (k + 1 + d),
+                field-here d l ∙ ap (λ (x : Kind). fieldCell x (at H (k + 1 + d))) (kind-traced (kind Y H k) t),
+              );
           others = λ d l. absurd (omega arith);
         }))
         (λ (t : isTraced (kind Y H k) ≡ false).
@@ -108,7 +113,8 @@ module _ (Y : Layout) (H : List ℕ) where
           fields = λ d l. absurd (omega arith);
           others = λ d l. (
             at H (k + 1 + d),
-            ap (λ (y : ℕ). getD (P o) y (still 0)) (omega arith) ∙ field-here d l ∙ ap (λ (x : Kind). fieldCell x (at H (k + 1 + d))) (kind-untraced (kind Y H k) t),
+            ap (λ (y : ℕ). getD (P o) y (still 0)) (omega arith) ∙ field-here d l
+                ∙ ap (λ (x : Kind). fieldCell x (at H (k + 1 + d))) (kind-untraced (kind Y H k) t),
           );
         }))
         (by-test (isTraced (kind Y H k)))

@@ -90,11 +90,14 @@ module _ (Y : Layout) (K : Lawful Y) (s : State) (v : Sound Y s) where
   new-is x a b =
       let q : t + (x - t) ≡ x = omega arith in
       cleared-outside D (firstWord s) used x
-      (⊎-elim (λ (d : firstWord s + S ≤ t). inr (omega (arith, v .shape .high, v .shape .low))) (λ (d : t + S ≤ firstWord s). inl (omega arith)) (halves-ordered s))
+      (⊎-elim (λ (d : firstWord s + S ≤ t). inr (omega (arith, v .shape .high, v .shape .low)))
+      (λ (d : t + S ≤ firstWord s). inl (omega arith)) (halves-ordered s))
       ∙ subst (λ (y : ℕ). at D y ≡ at N y) q (end-word Y s v n over (x - t) (omega arith))
 
   null-is : at (cleared D (firstWord s) used) 0 ≡ at N 0
-  null-is = cleared-outside D (firstWord s) used 0 (inl (omega (arith, first-in s (v .shape)))) ∙ stage-null Y s (orderAt Y s n) n ∙ sym (new-null Y s v)
+  null-is =
+      cleared-outside D (firstWord s) used 0 (inl (omega (arith, first-in s (v .shape)))) ∙ stage-null Y s (orderAt Y s n) n
+      ∙ sym (new-null Y s v)
 
   at-each : (x : ℕ) → x < length (s .heap) → at (cleared D (firstWord s) used) x ≡ at N x
   at-each x l =
@@ -118,7 +121,8 @@ module _ (Y : Layout) (K : Lawful Y) (s : State) (v : Sound Y s) where
   leaves = evacuated Y (s .heap) (s .roots) (firstWord s) (free s - firstWord s) (otherFirst s)
 
   -- THE END
-  pub ended-is : lent (leaves .heap) (leaves .roots) (record { half = other (s .«record» .half); free = record { 0 = leaves .free } }) ≡ collected Y s
+  pub ended-is : lent (leaves .heap) (leaves .roots)
+      (record { half = other (s .«record» .half); free = record { 0 = leaves .free } }) ≡ collected Y s
   unfolding evacuated stateAfter
   ended-is =
       λ i. record {

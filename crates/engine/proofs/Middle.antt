@@ -58,7 +58,8 @@ module _ (Y : Layout) (s : State) (v : Sound Y s) (p : ℕ) (h : List ℕ) (M : 
       (λ (a : p ≤ j). ⊎-elim
       (λ (b : j < length P). M .todo j a l ∙ sym (stage-coming Y s v O (order-heads Y s v p) (order-room Y s v p) p j a b))
       (λ (b : length P ≤ j).
-      M .todo j a l ∙ ap oldWord (List·getD-eq-default P (still 0) b) ∙ sym (stage-rest Y s v O (order-heads Y s v p) (order-room Y s v p) p j b l))
+      M .todo j a l ∙ ap oldWord (List·getD-eq-default P (still 0) b)
+      ∙ sym (stage-rest Y s v O (order-heads Y s v p) (order-room Y s v p) p j b l))
       (decide j (length P)))
       (decide j p)
 
@@ -67,7 +68,8 @@ module _ (Y : Layout) (s : State) (v : Sound Y s) (p : ℕ) (h : List ℕ) (M : 
       ⊎-elim
       (λ (m : In x O). M .mark x m ∙ sym (stage-header Y s v O (order-heads Y s v p) (order-room Y s v p) p x m))
       (λ (m : Out x O).
-      M .kept x (⊎-elim (λ (e : firstWord s + S ≤ t). inl (omega arith)) (λ (e : t + S ≤ firstWord s). inr (omega arith)) (halves-ordered s)) m
+      M .kept x (⊎-elim (λ (e : firstWord s + S ≤ t). inl (omega arith)) (λ (e : t + S ≤ firstWord s). inr (omega arith))
+      (halves-ordered s)) m
       ∙ sym (stage-kept Y s v O (order-heads Y s v p) (order-room Y s v p) p x a b m))
       (by-test (mem x O))
 
@@ -124,7 +126,8 @@ module _ (Y : Layout) (K : Lawful Y) (s : State) (v : Sound Y s) where
 
   -- a slice: from the state after p words, at most n more give the state after p + n
   slice-is : (n p : ℕ) (h : List ℕ) (c : Scan) → Scans Y s (orderAt Y s p) p h c
-      → lent (run Y n h c .heap) (e .roots) (record { half = other (s .«record» .half); free = record { 0 = run Y n h c .scan .free } }) ≡ during Y s (p + n)
+      → lent (run Y n h c .heap) (e .roots)
+      (record { half = other (s .«record» .half); free = record { 0 = run Y n h c .scan .free } }) ≡ during Y s (p + n)
   slice-is n p h c I =
       let r = slice Y K s v n p h c I in
       stands-is (r .place) (run Y n h c .heap) (run Y n h c .scan) (r .scans)
@@ -152,7 +155,8 @@ module _ (Y : Layout) (K : Lawful Y) (s : State) (v : Sound Y s) where
       ⊎-elim
       (λ (z : q ≡ 0 + p). omega arith)
       (λ (z : length (packed (cells Y (s .heap)) (orderAt Y s q)) ≤ q).
-      let w : length (packed (cells Y (s .heap)) (orderAt Y s q)) ≡ length (packed (cells Y (s .heap)) (order Y s)) = ap (λ (o : List ℕ). length (packed (cells Y (s .heap)) o)) (ended Y s v q z) in
+      let w : length (packed (cells Y (s .heap)) (orderAt Y s q)) ≡ length (packed (cells Y (s .heap)) (order Y s)) =
+      ap (λ (o : List ℕ). length (packed (cells Y (s .heap)) o)) (ended Y s v q z) in
       omega (arith, reached p .upto))
       (reached p .whole)
 

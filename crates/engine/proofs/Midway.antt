@@ -34,7 +34,8 @@ pub record Midway (Y : Layout) (s : State) (o : List ℕ) (p : ℕ) (h : List �
   pub kept : (x : ℕ) → Outside (otherFirst s) (halfWords (s .heap)) x → Out x o → at h x ≡ at (s .heap) x
   pub mark : (x : ℕ) → In x o → at h x ≡ Y .mark (address Y (otherFirst s + wordsBefore (cells Y (s .heap)) o x))
   -- the new half: words passed are final, the others as the old objects hold them
-  pub done : (j : ℕ) → j < p → at h (otherFirst s + j) ≡ settle Y (s .heap) o (otherFirst s) (getD (packed (cells Y (s .heap)) o) j (still 0))
+  pub done : (j : ℕ) → j < p → at h (otherFirst s + j)
+      ≡ settle Y (s .heap) o (otherFirst s) (getD (packed (cells Y (s .heap)) o) j (still 0))
   pub todo : (j : ℕ) → p ≤ j → j < halfWords (s .heap) → at h (otherFirst s + j) ≡ oldWord (getD (packed (cells Y (s .heap)) o) j (still 0))
   -- what the words passed lead to is copied
   pub named : (j i : ℕ) → j < p → cellLeads Y (getD (packed (cells Y (s .heap)) o) j (still 0)) ≡ some i → In i o
@@ -52,13 +53,15 @@ module _ (Y : Layout) (h : List ℕ) (k f : ℕ) where
   moved-other : (x : ℕ) → (x ≡ k → ⊥) → Outside f (size Y h k) x → at (moved Y h k f) x ≡ at h x
   moved-other x d o = getD-set-other (copiedRun h k f (size Y h k)) k x (Y .mark (address Y f)) 0 d ∙ copied-outside h k f (size Y h k) x o
 
-  moved-copy : (d : ℕ) → Apart k f (size Y h k) → f + size Y h k ≤ length h → (f + d ≡ k → ⊥) → d < size Y h k → at (moved Y h k f) (f + d) ≡ at h (k + d)
+  moved-copy : (d : ℕ) → Apart k f (size Y h k) → f + size Y h k ≤ length h → (f + d ≡ k → ⊥) → d < size Y h k
+      → at (moved Y h k f) (f + d) ≡ at h (k + d)
   moved-copy d a l e b =
       getD-set-other (copiedRun h k f (size Y h k)) k (f + d) (Y .mark (address Y f)) 0 e ∙ copied-inside h k f (size Y h k) d a l b
 
 -- ---- a new object moved to the free words
 
-module _ (Y : Layout) (s : State) (v : Sound Y s) (o : List ℕ) (p : ℕ) (h : List ℕ) (M : Midway Y s o p h) (k : ℕ) (hk : In k (headers Y s)) (new : Out k o) where
+module _ (Y : Layout) (s : State) (v : Sound Y s) (o : List ℕ) (p : ℕ) (h : List ℕ) (M : Midway Y s o p h) (k : ℕ)
+    (hk : In k (headers Y s)) (new : Out k o) where
   abbrev H : List ℕ
   H = s .heap
 
@@ -123,7 +126,8 @@ module _ (Y : Layout) (s : State) (v : Sound Y s) (o : List ℕ) (p : ℕ) (h : 
   runs-apart =
       let b = header-half Y s v k (Y .countOf (at H k)) hk (omega arith) in
       let a = header-half Y s v k 0 hk (omega arith) in
-      ⊎-elim (λ (e : firstWord s + S ≤ t). inl (omega (arith, same-size, b .1))) (λ (e : t + S ≤ firstWord s). inr (omega (arith, same-size, space, a .0))) (halves-ordered s)
+      ⊎-elim (λ (e : firstWord s + S ≤ t). inl (omega (arith, same-size, b .1)))
+      (λ (e : t + S ≤ firstWord s). inr (omega (arith, same-size, space, a .0))) (halves-ordered s)
 
   not-new : (j : ℕ) → j < S → t + j ≡ k → ⊥
   not-new j l e = ⊎-elim (λ (a : k < t). omega arith) (λ (a : t + S ≤ k). omega arith) k-out
@@ -145,7 +149,8 @@ module _ (Y : Layout) (s : State) (v : Sound Y s) (o : List ℕ) (p : ℕ) (h : 
   mark′ x m =
       ⊎-elim
       (λ (n : In x o).
-      moved-other Y h k f x (in-out x k o n new) (copy-outside x (subst (Outside t S) (add-zero x) (header-outside Y s v x 0 (M .heads x n) (omega arith))))
+      moved-other Y h k f x (in-out x k o n new)
+      (copy-outside x (subst (Outside t S) (add-zero x) (header-outside Y s v x 0 (M .heads x n) (omega arith))))
       ∙ M .mark x n
       ∙ ap (λ (y : ℕ). Y .mark (address Y (t + y))) (sym (wordsBefore-append (cells Y H) o (k ∷ []) x n)))
       (λ (e : x ≡ k).
@@ -158,7 +163,9 @@ module _ (Y : Layout) (s : State) (v : Sound Y s) (o : List ℕ) (p : ℕ) (h : 
   cell-before j l = ap (λ (c : List Cell). getD c j (still 0)) (packed-snoc Y H o k) ∙ List·getD-append (P o) (cells Y H k) (still 0) j l
 
   cell-new : (d : ℕ) → getD (P o′) (length (P o) + d) (still 0) ≡ getD (cells Y H k) d (still 0)
-  cell-new d = ap (λ (c : List Cell). getD c (length (P o) + d) (still 0)) (packed-snoc Y H o k) ∙ getD-append-add (P o) (cells Y H k) d (still 0)
+  cell-new d =
+      ap (λ (c : List Cell). getD c (length (P o) + d) (still 0)) (packed-snoc Y H o k)
+      ∙ getD-append-add (P o) (cells Y H k) d (still 0)
 
   done′ : (j : ℕ) → j < p → at h′ (t + j) ≡ settle Y H o′ t (getD (P o′) j (still 0))
   done′ j l =

@@ -95,13 +95,16 @@ module _ (Y : Layout) where
       header-run = turn-run Y h (between i f) (may .before) (size Y h i) n (add-one n) (after h (scan (i + 1) v r f)) header-is
 
       header-safe : SafeRun Y n h (scan (i + 1) v r f)
-      header-safe = turn-safe Y h (between i f) (may .before) (size Y h i) n (add-one n) (after h (scan (i + 1) v r f)) header-is (may .safe)
+      header-safe =
+          turn-safe Y h (between i f) (may .before) (size Y h i) n (add-one n)
+          (after h (scan (i + 1) v r f)) header-is (may .safe)
 
     module _ (m : ℕ) (count : m ≡ Y .countOf (at h i)) where
       pub fields-may : isTraced (Y .kindOf (at h i)) ≡ true → MayPassFields Y h (i + 1) m f
       fields-may t = rw count (record { whole = object-whole; safe = header-safe n 0 (rw t) (rw t) })
 
-      pub traced-is : isTraced (Y .kindOf (at h i)) ≡ true → (h′ : List ℕ) (f′ : ℕ) → after h′ (between (i + 1 + m) f′) ≡ run Y m h (scan (i + 1) m 0 f)
+      pub traced-is : isTraced (Y .kindOf (at h i)) ≡ true → (h′ : List ℕ) (f′ : ℕ)
+          → after h′ (between (i + 1 + m) f′) ≡ run Y m h (scan (i + 1) m 0 f)
           → after h′ (between (i + 1 + m) f′) ≡ run Y (size Y h i) h (between i f)
       traced-is t h′ f′ e = e ∙ ap (λ (x : ℕ). run Y x h (scan (i + 1) x 0 f)) count ∙ header-run n 0 (rw t) (rw t)
 

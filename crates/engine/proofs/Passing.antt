@@ -37,7 +37,8 @@ pub record Scans (Y : Layout) (s : State) (o : List ℕ) (p : ℕ) (h : List ℕ
   pub rest : List ℕ
   pub cursor : Cursor Y (s .heap) o p (c .values) (c .raws) gone rest
 
-module _ (Y : Layout) (K : Lawful Y) (s : State) (v : Sound Y s) (o : List ℕ) (p : ℕ) (h : List ℕ) (c : Scan) (I : Scans Y s o p h c) (more : c .at < c .free) where
+module _ (Y : Layout) (K : Lawful Y) (s : State) (v : Sound Y s) (o : List ℕ) (p : ℕ) (h : List ℕ) (c : Scan)
+    (I : Scans Y s o p h c) (more : c .at < c .free) where
   abbrev H : List ℕ
   H = s .heap
 
@@ -81,7 +82,14 @@ module _ (Y : Layout) (K : Lawful Y) (s : State) (v : Sound Y s) (o : List ℕ) 
 
     header-may : MayPass Y h c
     header-may = record {
-      whole = λ a b. omega (arith, ap (λ (x : ℕ). Y .countOf x) header-at, object-fits Y H o p (I .gone) k rest between (header-within Y s v k hk), I .stands, I .free);
+      whole =
+          λ a b. omega (
+            arith,
+            ap (λ (x : ℕ). Y .countOf x) header-at,
+            object-fits Y H o p (I .gone) k rest between (header-within Y s v k hk),
+            I .stands,
+            I .free,
+          );
       moves = λ n. absurd (n zv);
     }
 
@@ -102,9 +110,11 @@ module _ (Y : Layout) (K : Lawful Y) (s : State) (v : Sound Y s) (o : List ℕ) 
 
   at-header : c .values ≡ 0 → c .raws ≡ 0 → (l : List ℕ) → I .rest ≡ l → Turn
   at-header zv zr [] e =
-      let q : length (P o) ≡ length (P (I .gone)) = ap (λ (x : List ℕ). length (P x)) (I .cursor .split ∙ ap (λ (y : List ℕ). I .gone ++ y) e ∙ append-nil (I .gone)) in
+      let q : length (P o) ≡ length (P (I .gone)) = ap (λ (x : List ℕ). length (P x))
+      (I .cursor .split ∙ ap (λ (y : List ℕ). I .gone ++ y) e ∙ append-nil (I .gone)) in
       absurd (omega (arith, p-in, I .cursor .stands))
-  at-header zv zr (k ∷ rest) e = (header-may zv zr k rest e, subst Next (stay (at H k) (head-is zv zr k rest e)) (header-next zv zr k rest e))
+  at-header zv zr (k ∷ rest) e =
+      (header-may zv zr k rest e, subst Next (stay (at H k) (head-is zv zr k rest e)) (header-next zv zr k rest e))
 
   -- ---- a raw word
 
@@ -150,7 +160,9 @@ module _ (Y : Layout) (K : Lawful Y) (s : State) (v : Sound Y s) (o : List ℕ) 
     value-next =
         rw (passed-value Y h c n, w-at, I .free, I .stands)
         (record {
-          mid = write Y s v o′ p (renamed Y h w (t + length (P o)) .heap) (F .mid) (omega (arith, p-in, packed-grows (cells Y H) o o′ grown))
+          mid =
+              write Y s v o′ p (renamed Y h w (t + length (P o)) .heap) (F .mid)
+              (omega (arith, p-in, packed-grows (cells Y H) o o′ grown))
               (renamed Y h w (t + length (P o)) .word)
               (F .word ∙ ap (settle Y H o′ t) (sym here′))
               (λ i q. subst (λ (l : Option ℕ). In i (visit o l)) (sym (ap (cellLeads Y) (sym here′) ∙ q)) (visit-has o i));
@@ -170,9 +182,11 @@ module _ (Y : Layout) (K : Lawful Y) (s : State) (v : Sound Y s) (o : List ℕ) 
         subst Next (sym (ap (λ (x : Cell). visit o (cellLeads Y x)) e)) (value-next n (k .0) e),
       )
 
-  pub turn : MayPass Y h c × Scans Y s (visit o (cellLeads Y (getD (packed (cells Y (s .heap)) o) p (still 0)))) (suc p) (passed Y h c .heap) (passed Y h c .scan)
+  pub turn : MayPass Y h c × Scans Y s (visit o (cellLeads Y (getD (packed (cells Y (s .heap)) o) p (still 0)))) (suc p)
+      (passed Y h c .heap) (passed Y h c .scan)
   turn =
       ⊎-elim
-      (λ (zv : c .values ≡ 0). ⊎-elim (λ (zr : c .raws ≡ 0). at-header zv zr (I .rest) refl) (λ (n : c .raws ≡ 0 → ⊥). at-raw zv n) (same? (c .raws) 0))
+      (λ (zv : c .values ≡ 0).
+      ⊎-elim (λ (zr : c .raws ≡ 0). at-header zv zr (I .rest) refl) (λ (n : c .raws ≡ 0 → ⊥). at-raw zv n) (same? (c .raws) 0))
       (λ (n : c .values ≡ 0 → ⊥). at-value n)
       (same? (c .values) 0)

@@ -34,7 +34,8 @@ module _ (Y : Layout) where
 
   -- root i, those before it renamed
   module _ (h rs : List ℕ) (f i : ℕ) (more : i < length rs) (safe : SafeRoots Y h (drop i rs) f) where
-    here : MayRename Y h (getD rs i 0) f × SafeRoots Y (renamed Y h (getD rs i 0) f .heap) (drop (suc i) rs) (renamed Y h (getD rs i 0) f .free)
+    here : MayRename Y h (getD rs i 0) f × SafeRoots Y (renamed Y h (getD rs i 0) f .heap) (drop (suc i) rs)
+        (renamed Y h (getD rs i 0) f .free)
     here = safe-cons h (getD rs i 0) (drop (suc i) rs) f (rw (drop-cons rs i 0 more) at safe)
 
     pub root-may : MayRename Y h (getD rs i 0) f
@@ -52,7 +53,13 @@ module _ (Y : Layout) where
       pub root-turn : joined (take (i + 1) (set rs i (l .word))) (rooted Y (l .heap) (drop (i + 1) (set rs i (l .word))) (l .free))
           ≡ joined (take i rs) (rooted Y h (drop i rs) f)
       root-turn =
-          rw (add-one i, drop-set-lt (suc i) rs i (l .word) (omega arith), take-suc-set rs i (l .word) more, drop-cons rs i 0 more, rooted-cons h (getD rs i 0) (drop (suc i) rs) f)
+          rw (
+            add-one i,
+            drop-set-lt (suc i) rs i (l .word) (omega arith),
+            take-suc-set rs i (l .word) more,
+            drop-cons rs i 0 more,
+            rooted-cons h (getD rs i 0) (drop (suc i) rs) f,
+          )
           (rw (append-snoc (take i rs) (l .word), ← e))
 
   -- ---- roots, scan and clearing, in a row
@@ -61,7 +68,8 @@ module _ (Y : Layout) where
     pub scan-safe : SafeEvacuation Y h rs old used new → SafeRun Y (length h₁ - new) h₁ (between new f₁)
     scan-safe p = subst (λ (v : Emptied). SafeRun Y (length (v .heap) - new) (v .heap) (between new (v .free))) (sym e) (p .scan)
 
-    pub evacuated-is : (h₂ : List ℕ) (f₂ : ℕ) (h₃ : List ℕ) → freed h₂ f₂ ≡ ended (run Y (length h₁ - new) h₁ (between new f₁)) → h₃ ≡ cleared h₂ old used
+    pub evacuated-is : (h₂ : List ℕ) (f₂ : ℕ) (h₃ : List ℕ) → freed h₂ f₂ ≡ ended (run Y (length h₁ - new) h₁ (between new f₁))
+        → h₃ ≡ cleared h₂ old used
         → emptied h₃ rs₁ f₂ ≡ evacuated Y h rs old used new
     unfolding evacuated scanned
     evacuated-is h₂ f₂ h₃ a b =

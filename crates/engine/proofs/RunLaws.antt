@@ -59,7 +59,8 @@ module _ (Y : Layout) where
       ∙ omega (arith, passed-keeps Y h c .next)
 
   -- a run is its first n words, then the others
-  pub run-cut : (n m : ℕ) (h : List ℕ) (c : Scan) → c .at + n ≤ c .free → run Y (n + m) h c ≡ run Y m (run Y n h c .heap) (run Y n h c .scan)
+  pub run-cut : (n m : ℕ) (h : List ℕ) (c : Scan) → c .at + n ≤ c .free
+      → run Y (n + m) h c ≡ run Y m (run Y n h c .heap) (run Y n h c .scan)
   unfolding run
   run-cut zero m h c l = ap (λ (k : ℕ). run Y k h c) (zero-add m)
   run-cut (suc n) m h c l =
@@ -71,10 +72,14 @@ module _ (Y : Layout) where
   unfolding SafeRun
   safe-first zero m h c s = safe-room (0 + m) h c s
   safe-first (suc n) m h c s =
-      let t : SafeRun Y (suc (n + m)) h c = rw suc-add at s in
-      (safe-room (suc (n + m)) h c t, λ d. let u = safe-step (n + m) h c d t in (u .0, safe-first n m (passed Y h c .heap) (passed Y h c .scan) (u .1)))
+      let t : SafeRun Y (suc (n + m)) h c = rw suc-add at s in (
+        safe-room (suc (n + m)) h c t,
+        λ d. let u = safe-step (n + m) h c d t in
+            (u .0, safe-first n m (passed Y h c .heap) (passed Y h c .scan) (u .1)),
+      )
 
-  pub safe-rest : (n m : ℕ) (h : List ℕ) (c : Scan) → c .at + n ≤ c .free → SafeRun Y (n + m) h c → SafeRun Y m (run Y n h c .heap) (run Y n h c .scan)
+  pub safe-rest : (n m : ℕ) (h : List ℕ) (c : Scan) → c .at + n ≤ c .free → SafeRun Y (n + m) h c
+      → SafeRun Y m (run Y n h c .heap) (run Y n h c .scan)
   unfolding run
   safe-rest zero m h c l s = subst (λ (k : ℕ). SafeRun Y k h c) (zero-add m) s
   safe-rest (suc n) m h c l s =
@@ -89,6 +94,7 @@ module _ (Y : Layout) where
   run-length (suc n) h c =
       ⊎-elim
       (λ (d : c .at < c .free).
-      ap (λ (a : After). length (a .heap)) (run-step n h c d) ∙ run-length n (passed Y h c .heap) (passed Y h c .scan) ∙ passed-keeps Y h c .same)
+      ap (λ (a : After). length (a .heap)) (run-step n h c d) ∙ run-length n (passed Y h c .heap) (passed Y h c .scan)
+      ∙ passed-keeps Y h c .same)
       (λ (d : c .free ≤ c .at). ap (λ (a : After). length (a .heap)) (run-done (suc n) h c d))
       (decide (c .at) (c .free))

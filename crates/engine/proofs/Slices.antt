@@ -76,7 +76,8 @@ module _ (Y : Layout) (K : Lawful Y) (s : State) (v : Sound Y s) where
   roots-all (w ∷ rs) o h M g =
       let o₁ = visit o (wordLeads Y w) in
       let F = renames Y K s v o 0 h M w
-      (λ i e. let q = leads-address Y w i e in subst (λ (x : ℕ). In x (headers Y s)) (q .1) (value-header Y (headers Y s) w (g 0 (omega arith)) (q .0))) in
+      (λ i e. let q = leads-address Y w i e in subst (λ (x : ℕ). In x (headers Y s)) (q .1)
+      (value-header Y (headers Y s) w (g 0 (omega arith)) (q .0))) in
       let i = roots-all rs o₁ (renamed Y h w (t + length (P o)) .heap) (F .mid) (λ r l. g (suc r) (omega arith)) in
       let stay : rename Y H (visits o₁ (map (wordLeads Y) rs)) t w ≡ rename Y H o₁ t w =
       rename-stable Y H o₁ (visits o₁ (map (wordLeads Y) rs)) t w (visits-starts o₁ (map (wordLeads Y) rs))
@@ -93,10 +94,12 @@ module _ (Y : Layout) (K : Lawful Y) (s : State) (v : Sound Y s) where
   abbrev e : Emptied
   e = rooted Y (s .heap) (s .roots) (otherFirst s)
 
-  started : SafeRoots Y H (s .roots) t × Rooted Y s (visits [] (map (wordLeads Y) (s .roots))) (s .roots) (rooted Y (s .heap) (s .roots) (otherFirst s))
+  started : SafeRoots Y H (s .roots) t × Rooted Y s (visits [] (map (wordLeads Y) (s .roots))) (s .roots)
+      (rooted Y (s .heap) (s .roots) (otherFirst s))
   unfolding packed
   started =
-      subst (λ (f : ℕ). SafeRoots Y H (s .roots) f × Rooted Y s (visits [] (map (wordLeads Y) (s .roots))) (s .roots) (rooted Y H (s .roots) f)) (add-zero t)
+      subst (λ (f : ℕ). SafeRoots Y H (s .roots) f × Rooted Y s (visits [] (map (wordLeads Y) (s .roots))) (s .roots)
+      (rooted Y H (s .roots) f)) (add-zero t)
       (roots-all (s .roots) [] H begins (v .roots))
 
   pub safe-roots : SafeRoots Y H (s .roots) t
@@ -141,7 +144,9 @@ module _ (Y : Layout) (K : Lawful Y) (s : State) (v : Sound Y s) where
       (record {
         place = r .place;
         upto = omega (arith, r .upto);
-        whole = ⊎-elim (λ (q : r .place ≡ suc p + n). inl (omega arith)) (λ (q : length (packed (cells Y (s .heap)) (orderAt Y s (r .place))) ≤ r .place). inr q) (r .whole);
+        whole =
+            ⊎-elim (λ (q : r .place ≡ suc p + n). inl (omega arith))
+            (λ (q : length (packed (cells Y (s .heap)) (orderAt Y s (r .place))) ≤ r .place). inr q) (r .whole);
         scans = r .scans;
       }))
       (λ (m : c .free ≤ c .at).
@@ -150,7 +155,14 @@ module _ (Y : Layout) (K : Lawful Y) (s : State) (v : Sound Y s) where
       (decide (c .at) (c .free))
 
   room : (p : ℕ) (h : List ℕ) (c : Scan) → Scans Y s (orderAt Y s p) p h c → c .free ≤ length h
-  room p h c I = omega (arith, I .free, distinct-fits Y s v (orderAt Y s p) (I .mid .heads) (I .mid .once), I .mid .same, other-in s (v .shape))
+  room p h c I =
+      omega (
+        arith,
+        I .free,
+        distinct-fits Y s v (orderAt Y s p) (I .mid .heads) (I .mid .once),
+        I .mid .same,
+        other-in s (v .shape),
+      )
 
   pub safe-slice : (n p : ℕ) (h : List ℕ) (c : Scan) → Scans Y s (orderAt Y s p) p h c → SafeRun Y n h c
   unfolding SafeRun

@@ -17,7 +17,16 @@ use Rattle.model.proofs.Record.Laws as T′
 
 -- a type at one MIR type that is written out, and seen at exit as it was passed
 abbrev pub still : RattleType → Ty → RattleType
-still R τ = record { Denot = R .Denot; mir = τ ∷ []; written = R .written; reaches = R .reaches; own = R .own; exit = λ k. unchanged; coded = R .coded }
+still R τ =
+    record {
+      Denot = R .Denot;
+      mir = τ ∷ [];
+      written = R .written;
+      reaches = R .reaches;
+      own = R .own;
+      exit = λ k. unchanged;
+      coded = R .coded;
+    }
 
 pub record ByValue : Type 2 where
   pub base : RattleType
@@ -41,10 +50,14 @@ pub record Returned : Type 2 where
   pub answer-type : ByValue
   pub answer : base .Denot → answer-type .base .Denot
   pub «record» : base .Denot → Record
-  pub tells : Tells (still base (with-record name (answer-type .mir))) (Is (still base (with-record name (answer-type .mir)))) (λ r. vstruct (vcons (answer-type .val (answer r)) (vcons (LL.val T.the-type T′.the-laws («record» r)) vnil)) ∷ [])
-  pub answer-is : (r : base .Denot) (vs : List Val) → Is (still base (with-record name (answer-type .mir))) r vs → Is (type-of answer-type) (answer r) (answer-type .val (answer r) ∷ [])
-  pub record-is : (r : base .Denot) (vs : List Val) → Is (still base (with-record name (answer-type .mir))) r vs → Is T.the-row («record» r) (LL.vals T.the-type T′.the-laws («record» r))
-  pub lawful : {M : Type 1} (𝓤 : URA M) (H : Heap 𝓤) (A : Atoms 𝓤) (W : Given 𝓤 H A) → Lawful 𝓤 H A (still base (with-record name (answer-type .mir)))
+  pub tells : Tells (still base (with-record name (answer-type .mir))) (Is (still base (with-record name (answer-type .mir))))
+      (λ r. vstruct (vcons (answer-type .val (answer r)) (vcons (LL.val T.the-type T′.the-laws («record» r)) vnil)) ∷ [])
+  pub answer-is : (r : base .Denot) (vs : List Val) → Is (still base (with-record name (answer-type .mir))) r vs
+      → Is (type-of answer-type) (answer r) (answer-type .val (answer r) ∷ [])
+  pub record-is : (r : base .Denot) (vs : List Val) → Is (still base (with-record name (answer-type .mir))) r vs
+      → Is T.the-row («record» r) (LL.vals T.the-type T′.the-laws («record» r))
+  pub lawful : {M : Type 1} (𝓤 : URA M) (H : Heap 𝓤) (A : Atoms 𝓤) (W : Given 𝓤 H A)
+      → Lawful 𝓤 H A (still base (with-record name (answer-type .mir)))
 
 abbrev pub returned-mir : Returned → Ty
 returned-mir O = with-record (O .name) (O .answer-type .mir)

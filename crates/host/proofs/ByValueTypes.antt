@@ -20,14 +20,38 @@ use Rattle.host.proofs.ByValue.{ByValue, Returned}
 -- ---- kinds of types
 
 abbrev unsigned : Width → ByValue
-unsigned w = record { base = UInt w; mir = tyInt w; val = vint w; tells = uint-tells w; makes = λ 𝓤 H A W. uint-makes 𝓤 H A W w; lawful = λ 𝓤 H A W. uint-lawful 𝓤 H A W w }
+unsigned w =
+    record {
+      base = UInt w;
+      mir = tyInt w;
+      val = vint w;
+      tells = uint-tells w;
+      makes = λ 𝓤 H A W. uint-makes 𝓤 H A W w;
+      lawful = λ 𝓤 H A W. uint-lawful 𝓤 H A W w;
+    }
 
 abbrev signed : Width → ByValue
-signed w = record { base = SInt w; mir = tyInt w; val = λ z. vint w (ofZ w z); tells = sint-tells w; makes = λ 𝓤 H A W. sint-makes 𝓤 H A W w; lawful = λ 𝓤 H A W. sint-lawful 𝓤 H A W w }
+signed w =
+    record {
+      base = SInt w;
+      mir = tyInt w;
+      val = λ z. vint w (ofZ w z);
+      tells = sint-tells w;
+      makes = λ 𝓤 H A W. sint-makes 𝓤 H A W w;
+      lawful = λ 𝓤 H A W. sint-lawful 𝓤 H A W w;
+    }
 
 -- an enum whose variants hold plain data
 abbrev enum : (T : Declared) (L : EL.Laws T) → Plainss (variants T) → Few (shape T) → ByValue
-enum T L plain few = record { base = row T; mir = formOf (shape T) .ty; val = EL.val T L; tells = EL.tells T L; makes = λ 𝓤 H A W. EL.makes T plain 𝓤 H A; lawful = λ 𝓤 H A W. record { typed = EL.lawful T L 𝓤 H A W few .typed } }
+enum T L plain few =
+    record {
+      base = row T;
+      mir = formOf (shape T) .ty;
+      val = EL.val T L;
+      tells = EL.tells T L;
+      makes = λ 𝓤 H A W. EL.makes T plain 𝓤 H A;
+      lawful = λ 𝓤 H A W. record { typed = EL.lawful T L 𝓤 H A W few .typed };
+    }
 
 -- ---- the types
 

@@ -31,7 +31,8 @@ module _ (q : ℕ → Bool) (l : List ℕ) (from n i : ℕ) where
       → all q (run l (from + i) (n - i)) ≡ (b && all q (run l (from + (i + 1)) (n - (i + 1))))
   run-turn more fits b e = ap (all q) (run-next more fits) ∙ ap (λ (b : Bool). b && all q (run l (from + (i + 1)) (n - (i + 1)))) e
 
-  pub run-passed : i < n → from + n ≤ length l → q (at l (from + i)) ≡ true → all q (run l (from + (i + 1)) (n - (i + 1))) ≡ all q (run l (from + i) (n - i))
+  pub run-passed : i < n → from + n ≤ length l → q (at l (from + i)) ≡ true
+      → all q (run l (from + (i + 1)) (n - (i + 1))) ≡ all q (run l (from + i) (n - i))
   run-passed more fits e = sym (run-turn more fits true e)
 
   pub run-failed : i < n → from + n ≤ length l → q (at l (from + i)) ≡ false → all q (run l (from + i) (n - i)) ≡ false
@@ -107,7 +108,8 @@ module _ (Y : Layout) (H : List ℕ) (p : Part) (i : ℕ) where
   unfolding fieldsAreValuesByMarks
   fields-untraced k = rw k
 
-  pub fields-traced : isTraced (kind Y H i) ≡ true → (n : ℕ) → n ≡ fieldCount Y H i → (r : Bool) → r ≡ all (isValueByMarks Y H p) (run H (i + 1) n)
+  pub fields-traced : isTraced (kind Y H i) ≡ true → (n : ℕ) → n ≡ fieldCount Y H i → (r : Bool)
+      → r ≡ all (isValueByMarks Y H p) (run H (i + 1) n)
       → r ≡ fieldsAreValuesByMarks Y H p i
   unfolding fieldsAreValuesByMarks
   fields-traced k n c r e = rw k (rw c at e)

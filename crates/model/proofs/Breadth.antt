@@ -69,7 +69,8 @@ module _ {C : Type 0} (cells : ℕ → List C) where
 -- within d steps of the roots
 pub data Near {C : Type 0} (cells : ℕ → List C) (blank : C) (leads : C → Option ℕ) (R : List (Option ℕ)) : ℕ → ℕ → Type 0 where
   near-root : (k d : ℕ) {i : ℕ} → getD R k none ≡ some i → Near cells blank leads R d i
-  near-cell : (k d : ℕ) {i j : ℕ} → Near cells blank leads R d i → leads (getD (cells i) k blank) ≡ some j → Near cells blank leads R (suc d) j
+  near-cell : (k d : ℕ) {i j : ℕ} → Near cells blank leads R d i → leads (getD (cells i) k blank) ≡ some j
+      → Near cells blank leads R (suc d) j
 
 module _ {C : Type 0} (cells : ℕ → List C) (blank : C) (leads : C → Option ℕ) (R : List (Option ℕ)) (quiet : leads blank ≡ none) where
   abbrev F : ℕ → List ℕ
@@ -80,13 +81,15 @@ module _ {C : Type 0} (cells : ℕ → List C) (blank : C) (leads : C → Option
   near-reach d j (near-cell k d′ {i} n e) = cell k (near-reach d′ i n) e
 
   -- what is found by p comes from a root or from a cell passed before p
-  pub found-from : (p x : ℕ) → In x (F p) → ((k : ℕ) × (getD R k none ≡ some x)) ⊎ ((m : ℕ) × (m < p) × (m < length (packed cells (F m))) × (leads (getD (packed cells (F m)) m blank) ≡ some x))
+  pub found-from : (p x : ℕ) → In x (F p) → ((k : ℕ) × (getD R k none ≡ some x)) ⊎
+      ((m : ℕ) × (m < p) × (m < length (packed cells (F m))) × (leads (getD (packed cells (F m)) m blank) ≡ some x))
   unfolding found
   found-from zero x h = ⊎-elim (λ (m : In x []). in-nil x m) inl (visits-only [] R x h)
   found-from (suc p) x h =
       ⊎-elim
       (λ (m : In x (F p)). ⊎-elim inl (λ t. inr (t .0, let l = t .1 in omega arith, t .2, t .3)) (found-from p x m))
-      (λ (e : leads (getD (packed cells (F p)) p blank) ≡ some x). inr (p, omega arith, lead-short cells blank leads R quiet (packed cells (F p)) p x e, e))
+      (λ (e : leads (getD (packed cells (F p)) p blank) ≡ some x).
+      inr (p, omega arith, lead-short cells blank leads R quiet (packed cells (F p)) p x e, e))
       (visit-only (F p) (leads (getD (packed cells (F p)) p blank)) x h)
 
   module _ (q : ℕ) (closed : length (packed cells (F q)) ≤ q) where
@@ -108,7 +111,8 @@ module _ {C : Type 0} (cells : ℕ → List C) (blank : C) (leads : C → Option
 
     -- what a cell passed no later leads to is no farther
     child : (i c a d x m′ : ℕ) → getD (F q) a 0 ≡ i → a < length (F q) → c < length (cells i) → suc (wordsBefore cells (F q) i + c) ≤ q
-        → m′ < suc (wordsBefore cells (F q) i + c) → m′ < length (packed cells (F m′)) → leads (getD (packed cells (F m′)) m′ blank) ≡ some x
+        → m′ < suc (wordsBefore cells (F q) i + c) → m′ < length (packed cells (F m′))
+        → leads (getD (packed cells (F m′)) m′ blank) ≡ some x
         → ((k : ℕ) → k ≤ a → Near cells blank leads R d (getD (F q) k 0)) → Near cells blank leads R (suc d) x
     child i c a d x m′ pa la lc lq lm lp e ih =
         let u = found-distinct cells blank leads R q in
@@ -131,7 +135,8 @@ module _ {C : Type 0} (cells : ℕ → List C) (blank : C) (leads : C → Option
         (decide a (b .0)) in
         near-cell (f .1) d (subst (Near cells blank leads R d) (b .2) (ih (b .0) near)) (ap leads (sym at) ∙ e)
 
-    pub breadth : (d k l x : ℕ) → k ≤ l → l < length (F q) → getD (F q) l 0 ≡ x → Near cells blank leads R d x → Near cells blank leads R d (getD (F q) k 0)
+    pub breadth : (d k l x : ℕ) → k ≤ l → l < length (F q) → getD (F q) l 0 ≡ x → Near cells blank leads R d x
+        → Near cells blank leads R d (getD (F q) k 0)
     unfolding found
     breadth d k l x a b e (near-root r d′ f) =
         let u = found-distinct cells blank leads R q in
@@ -153,7 +158,8 @@ module _ {C : Type 0} (cells : ℕ → List C) (blank : C) (leads : C → Option
         let y : getD (F q) k 0 ≡ getD (F (suc m)) k 0 = prefix-at (F (suc m)) (F q) k s (omega arith) in
         ⊎-elim
         (λ (z : (r : ℕ) × (getD R r none ≡ some (getD (F (suc m)) k 0))). rw y (near-root (z .0) (suc d′) (z .1)))
-        (λ (z : (m′ : ℕ) × (m′ < suc m) × (m′ < length (packed cells (F m′))) × (leads (getD (packed cells (F m′)) m′ blank) ≡ some (getD (F (suc m)) k 0))).
+        (λ (z : (m′ : ℕ) × (m′ < suc m) × (m′ < length (packed cells (F m′))) × (leads (getD (packed cells (F m′)) m′ blank)
+        ≡ some (getD (F (suc m)) k 0))).
         rw y (child i c (pi .0) d′ (getD (F (suc m)) k 0) (z .0) (pi .2) (pi .1) (t .0) (t .1) (z .1) (z .2) (z .3)
         (λ k′ g. breadth d′ k′ (pi .0) i g (pi .1) (pi .2) n)))
         (found-from (suc m) (getD (F (suc m)) k 0) (at-in (F (suc m)) k (omega arith)))

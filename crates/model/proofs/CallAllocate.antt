@@ -45,7 +45,8 @@ pub data Allocation (Y : Layout) (k : Kind) (n r : ℕ) (s : State) : Outcome �
   later : n + 1 ≤ halfWords (s .heap) - live Y s → Allocation Y k n r s (says Says.Done (placed Y k n r (collected Y s)))
   never-fits : halfWords (s .heap) < live Y s + (n + 1) → Allocation Y k n r s (says (Says.Refused Why.Room) (collected Y s))
 
-pub allocation : (Y : Layout) (k : Kind) (n r : ℕ) (s : State) → Sound Y s → r < length (s .roots) → n ≤ maxFields → Allocation Y k n r s (step Y (Ask.Allocate k n r) s)
+pub allocation : (Y : Layout) (k : Kind) (n r : ℕ) (s : State) → Sound Y s → r < length (s .roots) → n ≤ maxFields
+    → Allocation Y k n r s (step Y (Ask.Allocate k n r) s)
 unfolding step Calls.allocate refuse
 allocation Y k n r s h l u =
     rw (unshaped s (h .shape), lt-leb (length (s .roots)) r l, le-ltb maxFields n u)
@@ -72,7 +73,8 @@ module _ (Y : Layout) (k : Kind) (n r : ℕ) (s : State) (h : Sound Y s) where
   allocate-count l u = rw (unshaped s (h .shape), lt-leb (length (s .roots)) r l, lt-ltb maxFields n u)
 
   -- "no room" exactly when live words and needed words exceed the half
-  pub allocate-room : r < length (s .roots) → n ≤ maxFields → (step Y (Ask.Allocate k n r) s .answer ≡ D3.noRoom) ↔ (halfWords (s .heap) < live Y s + (n + 1))
+  pub allocate-room : r < length (s .roots) → n ≤ maxFields
+      → (step Y (Ask.Allocate k n r) s .answer ≡ D3.noRoom) ↔ (halfWords (s .heap) < live Y s + (n + 1))
   allocate-room l u = go (step Y (Ask.Allocate k n r) s) (allocation Y k n r s h l u)
     where
       go : (o : Outcome) → Allocation Y k n r s o → (o .answer ≡ D3.noRoom) ↔ (halfWords (s .heap) < live Y s + (n + 1))
@@ -93,14 +95,19 @@ pub record Full (Y : Layout) (c : Call) (s : State) (g : Graph) (o : Outcome) : 
 
 module _ (Y : Layout) (law : Lawful Y) where
   pub allocate-agrees : (k : Kind) (n r : ℕ) (s : State) (g : Graph) → Represents Y s g
-      → Full Y (Ask.Allocate k n r) s g (step Y (Ask.Allocate k n r) s) ⊎ Agrees Y (step Y (Ask.Allocate k n r) s) (stepᵍ (Ask.Allocate k n r) g)
+      → Full Y (Ask.Allocate k n r) s g (step Y (Ask.Allocate k n r) s) ⊎ Agrees Y (step Y (Ask.Allocate k n r) s)
+      (stepᵍ (Ask.Allocate k n r) g)
   unfolding stepᵍ refuseᵍ
   allocate-agrees k n r s g m =
       ⊎-elim
       (λ (l : r < length (s .roots)).
       ⊎-elim
       (λ (u : maxFields < n).
-      inr (rw (allocate-count Y k n r s (m .ok) l u, lt-leb (length (g .roots)) r (omega (arith, m .count)), lt-ltb maxFields n u) (refl, m)))
+      inr (rw (
+        allocate-count Y k n r s (m .ok) l u,
+        lt-leb (length (g .roots)) r (omega (arith, m .count)),
+        lt-ltb maxFields n u,
+      ) (refl, m)))
       (λ (u : n ≤ maxFields).
       rw (lt-leb (length (g .roots)) r (omega (arith, m .count)), le-ltb maxFields n u)
       (go (step Y (Ask.Allocate k n r) s) l u (allocation Y k n r s (m .ok) l u)))
@@ -109,9 +116,19 @@ module _ (Y : Layout) (law : Lawful Y) where
       inr (rw (allocate-root Y k n r s (m .ok) l, le-leb (length (g .roots)) r (omega (arith, m .count))) (refl, m)))
       (decide r (length (s .roots)))
     where
-      go : (o : Outcome) → r < length (s .roots) → n ≤ maxFields → Allocation Y k n r s o → Full Y (Ask.Allocate k n r) s g o ⊎ Agrees Y o (saysᵍ Says.Done (grown k n r g))
+      go : (o : Outcome) → r < length (s .roots) → n ≤ maxFields → Allocation Y k n r s o
+          → Full Y (Ask.Allocate k n r) s g o ⊎ Agrees Y o (saysᵍ Says.Done (grown k n r g))
       go o l u (now f) = inr (refl, place-represents Y law s g m k n r u f)
       go o l u (later f) =
           inr (refl, place-represents Y law (collected Y s) g (collect-represents Y s g m) k n r u (omega (arith, spare-after Y s (m .ok))))
       go o l u (never-fits f) =
-          inl (record { kind = k; fields = n; to = r; is = refl; named = l; small = u; answers = refl; stands = collect-represents Y s g m })
+          inl (record {
+            kind = k;
+            fields = n;
+            to = r;
+            is = refl;
+            named = l;
+            small = u;
+            answers = refl;
+            stands = collect-represents Y s g m;
+          })

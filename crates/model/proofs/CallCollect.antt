@@ -48,7 +48,11 @@ module _ (Y : Layout) (s : State) (g : Graph) (m : Represents Y s g) where
   object-size : (b : Object) (i : ℕ) → i + size Y (s .heap) i ≤ length (s .heap) → Holds Y (m .ids) (m .pl) (s .heap) b i
       → length (cells Y (s .heap) i) ≡ length (objectCells b)
   object-size (traced vs) i l h = let c = cells-length Y (s .heap) i l in let z = length-map vs valueLeads in let y = h .1 in omega arith
-  object-size (untraced ws) i l h = let c = cells-length Y (s .heap) i l in let z : length {A = Option ℕ} (replicate (length ws) none) ≡ length ws = length-replicate (length ws) none in let y = h .1 in omega arith
+  object-size (untraced ws) i l h =
+      let c = cells-length Y (s .heap) i l in
+      let z : length {A = Option ℕ} (replicate (length ws) none) ≡ length ws = length-replicate (length ws) none in
+      let y = h .1 in
+      omega arith
 
   heap-field : (i f : ℕ) → i + size Y (s .heap) i ≤ length (s .heap) → f < fieldCount Y (s .heap) i
       → getD (cells Y (s .heap) i) (suc f) (still 0) ≡ fieldCell (kind Y (s .heap) i) (at (s .heap) (i + 1 + f))
@@ -57,15 +61,20 @@ module _ (Y : Layout) (s : State) (g : Graph) (m : Represents Y s g) where
       getD-map (fieldCell (kind Y (s .heap) i)) (fieldWords Y (s .heap) i) f 0 (still 0) (omega arith)
       ∙ ap (fieldCell (kind Y (s .heap) i)) (field-at Y (s .heap) i f u)
 
-  object-alike : (b : Object) (i k : ℕ) → i + size Y (s .heap) i ≤ length (s .heap) → Holds Y (m .ids) (m .pl) (s .heap) b i → k < length (objectCells b)
+  object-alike : (b : Object) (i k : ℕ) → i + size Y (s .heap) i ≤ length (s .heap) → Holds Y (m .ids) (m .pl) (s .heap) b i
+      → k < length (objectCells b)
       → A (itself (getD (objectCells b) k none)) (cellLeads Y (getD (cells Y (s .heap) i) k (still 0)))
   object-alike (traced vs) i zero l h u = refl
   object-alike (traced vs) i (suc f) l h u =
       let n : f < length vs = let z = length-map vs valueLeads in omega arith in
-      rw (heap-field i f l (let y = h .1 in omega arith), h .0, getD-map valueLeads vs f (plain null) none n) (rep-along (getD vs f (plain null)) (at (s .heap) (i + 1 + f)) (h .2 f n))
+      rw (heap-field i f l (let y = h .1 in omega arith), h .0, getD-map valueLeads vs f (plain null) none n)
+      (rep-along (getD vs f (plain null)) (at (s .heap) (i + 1 + f)) (h .2 f n))
   object-alike (untraced ws) i zero l h u = refl
   object-alike (untraced ws) i (suc f) l h u =
-      rw (getD-same {A = Option ℕ} (length ws) f none, heap-field i f l (let y = h .1 in let z : length {A = Option ℕ} (replicate (length ws) none) ≡ length ws = length-replicate (length ws) none in omega arith), h .0) refl
+      let y = h .1 in
+      let z : length {A = Option ℕ} (replicate (length ws) none) ≡ length ws = length-replicate (length ws) none in
+      let n : f < fieldCount Y (s .heap) i = omega arith in
+      rw (getD-same {A = Option ℕ} (length ws) f none, heap-field i f l n, h .0) refl
 
   within : (x : ℕ) → In x (m .ids) → m .pl x + size Y (s .heap) (m .pl x) ≤ length (s .heap)
   within x i = let t = header-tile Y s (m .ok) (m .pl x) (m .head x i) in omega (arith, free-in Y s (m .ok))
@@ -73,7 +82,8 @@ module _ (Y : Layout) (s : State) (g : Graph) (m : Represents Y s g) where
   roots-count : length (map valueLeads (g .roots)) ≡ length (map (wordLeads Y) (s .roots))
   roots-count = length-map (g .roots) valueLeads ∙ sym (m .count) ∙ sym (length-map (s .roots) (wordLeads Y))
 
-  roots-along : (k : ℕ) → k < length (map valueLeads (g .roots)) → A (getD (map valueLeads (g .roots)) k none) (getD (map (wordLeads Y) (s .roots)) k none)
+  roots-along : (k : ℕ) → k < length (map valueLeads (g .roots))
+      → A (getD (map valueLeads (g .roots)) k none) (getD (map (wordLeads Y) (s .roots)) k none)
   roots-along k l =
       let n : k < length (g .roots) = let z = length-map (g .roots) valueLeads in omega arith in
       rw (getD-map valueLeads (g .roots) k (plain null) none n, getD-map (wordLeads Y) (s .roots) k 0 none (omega (arith, m .count)))
@@ -141,21 +151,24 @@ module _ (Y : Layout) (s : State) (g : Graph) (m : Represents Y s g) where
       subst (λ z. In z (orderᵍ g (halfWords (s .heap)))) (m .apart (t .0) x (kept-known (t .0) (t .1)) i (t .2)) (t .1)
 
   -- a value and what its word became
-  became : (v : Value) (w w′ : ℕ) → Rep Y (m .ids) (m .pl) v w → D.Became Y s w w′ → (isAddress w ≡ true → D.Reach Y s (index Y w)) → Rep Y ids′ pl′ v w′
+  became : (v : Value) (w w′ : ℕ) → Rep Y (m .ids) (m .pl) v w → D.Became Y s w w′
+      → (isAddress w ≡ true → D.Reach Y s (index Y w)) → Rep Y ids′ pl′ v w′
   became (plain p) w w′ e b r = (e .0, b .stays (rw (e .1) (plain-no-address p (e .0))) ∙ e .1)
   became (object x) w w′ e b r =
       let p : isAddress w ≡ true = rw (e .1) (header-is-address Y s (m .ok) (m .pl x) (m .head x (e .0))) in
       let d : index Y w ≡ m .pl x = rw (e .1) (index-address Y (m .pl x)) in
       (reach-kept x (e .0) (subst (D.Reach Y s) d (r p)), b .moves p ∙ ap (λ z. address Y (D.copyIndex Y s z)) d)
 
-  kept-holds : (b : Object) (i : ℕ) → D.Reach Y s i → Holds Y (m .ids) (m .pl) (s .heap) b i → Holds Y ids′ pl′ (collected Y s .heap) b (D.copyIndex Y s i)
+  kept-holds : (b : Object) (i : ℕ) → D.Reach Y s i → Holds Y (m .ids) (m .pl) (s .heap) b i
+      → Holds Y ids′ pl′ (collected Y s .heap) b (D.copyIndex Y s i)
   kept-holds (traced vs) i r h =
       let e = c .header i r in (
         ap (λ z. Y .kindOf z) e ∙ h .0,
         ap (λ z. Y .countOf z) e ∙ h .1,
         λ f l.
             let u : f < fieldCount Y (s .heap) i = let y = h .1 in omega arith in
-            became (getD vs f (plain null)) (at (s .heap) (i + 1 + f)) (at (collected Y s .heap) (D.copyIndex Y s i + 1 + f)) (h .2 f l) (c .valueField i f r (h .0) u)
+            became (getD vs f (plain null)) (at (s .heap) (i + 1 + f)) (at (collected Y s .heap) (D.copyIndex Y s i + 1 + f))
+            (h .2 f l) (c .valueField i f r (h .0) u)
             (λ p. D.fromField i f r (h .0) u p),
       )
   kept-holds (untraced ws) i r h =

@@ -102,7 +102,8 @@ module _ (Y : Layout) (law : Lawful Y) where
       pl = pl⁺;
       known = λ x i.
           let a = length-append (g .objects) (blankObject k n ∷ []) in
-          ⊎-elim (λ (j : In x (m .ids)). omega (arith, m .known x j)) (λ (e : x ≡ length (g .objects)). omega arith) (in-snoc x (length (g .objects)) (m .ids) i);
+          ⊎-elim (λ (j : In x (m .ids)). omega (arith, m .known x j)) (λ (e : x ≡ length (g .objects)). omega arith)
+          (in-snoc x (length (g .objects)) (m .ids) i);
       head = λ x i.
           rw (place-headers Y law s (m .ok) k n r small fit)
           (⊎-elim
@@ -126,17 +127,26 @@ module _ (Y : Layout) (law : Lawful Y) where
           (λ (b : y ≡ length (g .objects)). a ∙ sym b)
           (in-snoc y (length (g .objects)) (m .ids) j))
           (in-snoc x (length (g .objects)) (m .ids) i);
-      count = ap length roots-set ∙ length-set (s .roots) r (address Y (free s)) ∙ m .count ∙ sym (length-set (g .roots) r (object (length (g .objects))));
+      count =
+          ap length roots-set ∙ length-set (s .roots) r (address Y (free s)) ∙ m .count
+          ∙ sym (length-set (g .roots) r (object (length (g .objects))));
       roots = λ q l.
           let l′ : q < length (g .roots) = let z = length-set (g .roots) r (object (length (g .objects))) in omega arith in
           rw roots-set
           (⊎-elim
           (λ (z : q ≡ r).
-          subst (λ x. Rep Y ids⁺ pl⁺ (getD (set (g .roots) r (object (length (g .objects)))) x (plain null)) (at (set (s .roots) r (address Y (free s))) x)) (sym z)
-          (rw (getD-set-same (g .roots) r (object (length (g .objects))) (plain null) (omega arith), getD-set-same (s .roots) r (address Y (free s)) 0 (omega (arith, m .count)))
+          subst (λ x. Rep Y ids⁺ pl⁺ (getD (set (g .roots) r (object (length (g .objects)))) x (plain null))
+          (at (set (s .roots) r (address Y (free s))) x)) (sym z)
+          (rw (
+            getD-set-same (g .roots) r (object (length (g .objects))) (plain null) (omega arith),
+            getD-set-same (s .roots) r (address Y (free s)) 0 (omega (arith, m .count)),
+          )
           (in-last (length (g .objects)) (m .ids), ap (address Y) (sym new-pl))))
           (λ (d : q ≡ r → ⊥).
-          rw (getD-set-other (g .roots) r q (object (length (g .objects))) (plain null) d, getD-set-other (s .roots) r q (address Y (free s)) 0 d)
+          rw (
+            getD-set-other (g .roots) r q (object (length (g .objects))) (plain null) d,
+            getD-set-other (s .roots) r q (address Y (free s)) 0 d,
+          )
           (rep-more (rootValue g q) (at (s .roots) q) (m .roots q l′)))
           (same? q r));
       holds = λ x i.

@@ -43,10 +43,12 @@ module _ (Y : Layout) where
       (ap (λ x. Y .kindOf x) e ∙ h .0, ap (λ x. Y .countOf x) e ∙ h .1, λ f l. rw (k f (let z = h .1 in omega arith)) (h .2 f l))
 
   -- the object that a value's word names, or OBJECT in both
-  on-object : (s : State) (g : Graph) (m : Represents Y s g) (k : Kind) (v : Value) (w f : ℕ) (next : Outcome) (t : ℕ → List Value → Outcomeᵍ) (u : ℕ → List ℕ → Outcomeᵍ)
+  on-object : (s : State) (g : Graph) (m : Represents Y s g) (k : Kind) (v : Value) (w f : ℕ) (next : Outcome)
+      (t : ℕ → List Value → Outcomeᵍ) (u : ℕ → List ℕ → Outcomeᵍ)
       → Rep Y (m .ids) (m .pl) v w
       → ((x : ℕ) → In x (m .ids) → w ≡ address Y (m .pl x) → Agrees Y
-      (refuse (not (isOfKind k (kind Y (s .heap) (m .pl x)))) Why.Kind s (refuse (leb (fieldCount Y (s .heap) (m .pl x)) f) Why.Field s next))
+      (refuse (not (isOfKind k (kind Y (s .heap) (m .pl x)))) Why.Kind s
+      (refuse (leb (fieldCount Y (s .heap) (m .pl x)) f) Why.Field s next))
       (byKind (nth g x) (t x) (u x)))
       → Agrees Y (onField Y k w f s next) (onObject g v t u)
   unfolding onObject refuse
@@ -66,35 +68,45 @@ module _ (Y : Layout) where
       (byKind b (λ vs. refuseᵍ (leb (length vs) f) Why.Field g (t vs)) (wrongKind g x))
   unfolding refuse
   traced-object s g m x f next t (traced vs) h k =
-      rw (h .0, h .1) (refuse-agrees Y (leb (length vs) f) (leb (length vs) f) Why.Field s g next (t vs) m refl (λ a. k vs refl (leb-false (length vs) f a)))
+      rw (h .0, h .1)
+      (refuse-agrees Y (leb (length vs) f) (leb (length vs) f) Why.Field s g next (t vs) m refl
+      (λ a. k vs refl (leb-false (length vs) f a)))
   traced-object s g m x f next t (untraced ws) h k = rw (h .0) (refl, m)
 
   -- and of an untraced one
   untraced-object : (s : State) (g : Graph) (m : Represents Y s g) (x f : ℕ) (next : Outcome) (t : List ℕ → Outcomeᵍ) (b : Object)
       → Holds Y (m .ids) (m .pl) (s .heap) b (m .pl x) → ((ws : List ℕ) → b ≡ untraced ws → f < length ws → Agrees Y next (t ws))
       → Agrees Y
-      (refuse (not (not (isTraced (kind Y (s .heap) (m .pl x))))) Why.Kind s (refuse (leb (fieldCount Y (s .heap) (m .pl x)) f) Why.Field s next))
+      (refuse (not (not (isTraced (kind Y (s .heap) (m .pl x))))) Why.Kind s
+      (refuse (leb (fieldCount Y (s .heap) (m .pl x)) f) Why.Field s next))
       (byKind b (wrongKind g x) (λ ws. refuseᵍ (leb (length ws) f) Why.Field g (t ws)))
   unfolding refuse
   untraced-object s g m x f next t (traced vs) h k = rw (h .0) (refl, m)
   untraced-object s g m x f next t (untraced ws) h k =
-      rw (h .0, h .1) (refuse-agrees Y (leb (length ws) f) (leb (length ws) f) Why.Field s g next (t ws) m refl (λ a. k ws refl (leb-false (length ws) f a)))
+      rw (h .0, h .1)
+      (refuse-agrees Y (leb (length ws) f) (leb (length ws) f) Why.Field s g next (t ws) m refl
+      (λ a. k ws refl (leb-false (length ws) f a)))
 
   -- what the heap holds for an object of the graph
-  held : (s : State) (g : Graph) (m : Represents Y s g) (x : ℕ) (b : Object) → In x (m .ids) → nth g x ≡ b → Holds Y (m .ids) (m .pl) (s .heap) b (m .pl x)
+  held : (s : State) (g : Graph) (m : Represents Y s g) (x : ℕ) (b : Object) → In x (m .ids) → nth g x ≡ b
+      → Holds Y (m .ids) (m .pl) (s .heap) b (m .pl x)
   held s g m x b i o = subst (λ z. Holds Y (m .ids) (m .pl) (s .heap) z (m .pl x)) o (m .holds x i)
 
-  traced-field : (s : State) (g : Graph) (m : Represents Y s g) (v : Value) (w f : ℕ) (next : Outcome) (t : ℕ → List Value → Outcomeᵍ) → Rep Y (m .ids) (m .pl) v w
+  traced-field : (s : State) (g : Graph) (m : Represents Y s g) (v : Value) (w f : ℕ) (next : Outcome)
+      (t : ℕ → List Value → Outcomeᵍ) → Rep Y (m .ids) (m .pl) v w
       → ((x : ℕ) (vs : List Value) → In x (m .ids) → w ≡ address Y (m .pl x) → nth g x ≡ traced vs → f < length vs → Agrees Y next (t x vs))
       → Agrees Y (onField Y Traced w f s next) (onObject g v (λ i vs. refuseᵍ (leb (length vs) f) Why.Field g (t i vs)) (wrongKind g))
   traced-field s g m v w f next t e k =
-      on-object s g m Traced v w f next _ _ e (λ x i q. traced-object s g m x f next (t x) (nth g x) (m .holds x i) (λ vs o l. k x vs i q o l))
+      on-object s g m Traced v w f next _ _ e (λ x i q.
+      traced-object s g m x f next (t x) (nth g x) (m .holds x i) (λ vs o l. k x vs i q o l))
 
-  untraced-field : (s : State) (g : Graph) (m : Represents Y s g) (v : Value) (w f : ℕ) (next : Outcome) (t : ℕ → List ℕ → Outcomeᵍ) → Rep Y (m .ids) (m .pl) v w
+  untraced-field : (s : State) (g : Graph) (m : Represents Y s g) (v : Value) (w f : ℕ) (next : Outcome)
+      (t : ℕ → List ℕ → Outcomeᵍ) → Rep Y (m .ids) (m .pl) v w
       → ((x : ℕ) (ws : List ℕ) → In x (m .ids) → w ≡ address Y (m .pl x) → nth g x ≡ untraced ws → f < length ws → Agrees Y next (t x ws))
       → Agrees Y (onField Y Untraced w f s next) (onObject g v (wrongKind g) (λ i ws. refuseᵍ (leb (length ws) f) Why.Field g (t i ws)))
   untraced-field s g m v w f next t e k =
-      on-object s g m Untraced v w f next _ _ e (λ x i q. untraced-object s g m x f next (t x) (nth g x) (m .holds x i) (λ ws o l. k x ws i q o l))
+      on-object s g m Untraced v w f next _ _ e (λ x i q.
+      untraced-object s g m x f next (t x) (nth g x) (m .holds x i) (λ ws o l. k x ws i q o l))
 
   pub load-agrees : (r f q : ℕ) (s : State) (g : Graph) → Represents Y s g → Agrees Y (step Y (Ask.Load r f q) s) (stepᵍ (Ask.Load r f q) g)
   unfolding step Calls.load stepᵍ
@@ -110,7 +122,8 @@ module _ (Y : Layout) where
       ))))
 
   -- a field's word changes, in both
-  word-represents : (s : State) (g : Graph) (m : Represents Y s g) (x f w : ℕ) (b : Object) → In x (m .ids) → f < fieldCount Y (s .heap) (m .pl x)
+  word-represents : (s : State) (g : Graph) (m : Represents Y s g) (x f w : ℕ) (b : Object) → In x (m .ids)
+      → f < fieldCount Y (s .heap) (m .pl x)
       → (kind Y (s .heap) (m .pl x) ≡ Traced → isValue Y (headers Y s) w ≡ true)
       → Holds Y (m .ids) (m .pl) (set (s .heap) (m .pl x + 1 + f) w) b (m .pl x)
       → Represents Y (withWord s (m .pl x + 1 + f) w) (withObject g x b)
@@ -134,7 +147,8 @@ module _ (Y : Layout) where
             (λ (d : y ≡ x → ⊥).
             rw (getD-set-other (g .objects) x y b (traced []) d)
             (holds-kept (m .ids) (m .pl) (s .heap) H′ (nth g y) (m .pl y)
-            (getD-set-other (s .heap) (m .pl x + 1 + f) (m .pl y) w 0 (field-no-header Y s (m .ok) (m .pl x) f (m .pl y) hd l (m .head y j)))
+            (getD-set-other (s .heap) (m .pl x + 1 + f) (m .pl y) w 0
+            (field-no-header Y s (m .ok) (m .pl x) f (m .pl y) hd l (m .head y j)))
             (λ k a. getD-set-other (s .heap) (m .pl x + 1 + f) (m .pl y + 1 + k) w 0
             (λ e. d (m .apart y x j i (one-object Y s (m .ok) (m .pl x) f (m .pl y) k hd l (m .head y j) a e))))
             (m .holds y j)))
@@ -142,7 +156,8 @@ module _ (Y : Layout) where
       }
 
   -- the object's field lies in the heap, and its header stays
-  field-in : (s : State) (g : Graph) (m : Represents Y s g) (x f : ℕ) → In x (m .ids) → f < fieldCount Y (s .heap) (m .pl x) → m .pl x + 1 + f < length (s .heap)
+  field-in : (s : State) (g : Graph) (m : Represents Y s g) (x f : ℕ) → In x (m .ids) → f < fieldCount Y (s .heap) (m .pl x)
+      → m .pl x + 1 + f < length (s .heap)
   field-in s g m x f i l =
       let t = tile Y s (m .ok) (m .pl x) (m .head x i) .within in
       let z = first-in s (m .ok .shape) in
@@ -166,7 +181,8 @@ module _ (Y : Layout) where
       rw (getD-set-other vs f k v d n, getD-set-other H (i + 1 + f) (i + 1 + k) w 0 (λ z. n (omega arith))) (h k a′))
       (same? k f)
 
-  store-represents : (s : State) (g : Graph) (m : Represents Y s g) (x f w : ℕ) (vs : List Value) (v : Value) → In x (m .ids) → nth g x ≡ traced vs → f < length vs
+  store-represents : (s : State) (g : Graph) (m : Represents Y s g) (x f w : ℕ) (vs : List Value) (v : Value) → In x (m .ids)
+      → nth g x ≡ traced vs → f < length vs
       → Rep Y (m .ids) (m .pl) v w → Represents Y (withWord s (m .pl x + 1 + f) w) (withObject g x (traced (set vs f v)))
   store-represents s g m x f w vs v i o l e =
       let h = held s g m x (traced vs) i o in
@@ -178,7 +194,8 @@ module _ (Y : Layout) where
         set-alike (Rep Y (m .ids) (m .pl)) vs (plain null) v (s .heap) (m .pl x) f w l (field-in s g m x f i u) (h .2) e,
       )
 
-  pub store-agrees : (r f q : ℕ) (s : State) (g : Graph) → Represents Y s g → Agrees Y (step Y (Ask.Store r f q) s) (stepᵍ (Ask.Store r f q) g)
+  pub store-agrees : (r f q : ℕ) (s : State) (g : Graph) → Represents Y s g
+      → Agrees Y (step Y (Ask.Store r f q) s) (stepᵍ (Ask.Store r f q) g)
   unfolding step Calls.store stepᵍ
   store-agrees r f q s g m =
       shape-passes Y s g _ _ m
@@ -188,10 +205,12 @@ module _ (Y : Layout) where
       (m .roots r (has-root Y s g m r (b .0)))
       (λ x vs i e o l. (
         refl,
-        rw (e, index-address Y (m .pl x)) (store-represents s g m x f (rootWord s q) vs (rootValue g q) i o l (m .roots q (has-root Y s g m q (b .1)))),
+        rw (e, index-address Y (m .pl x))
+            (store-represents s g m x f (rootWord s q) vs (rootValue g q) i o l (m .roots q (has-root Y s g m q (b .1)))),
       ))))
 
-  pub rawRead-agrees : (r f : ℕ) (s : State) (g : Graph) → Represents Y s g → Agrees Y (step Y (Ask.RawRead r f) s) (stepᵍ (Ask.RawRead r f) g)
+  pub rawRead-agrees : (r f : ℕ) (s : State) (g : Graph) → Represents Y s g
+      → Agrees Y (step Y (Ask.RawRead r f) s) (stepᵍ (Ask.RawRead r f) g)
   unfolding step Calls.rawRead stepᵍ
   rawRead-agrees r f s g m =
       shape-passes Y s g _ _ m
@@ -200,7 +219,8 @@ module _ (Y : Layout) where
       (m .roots r (has-root Y s g m r a))
       (λ x ws i e o l. (ap Says.Number (rw (e, index-address Y (m .pl x)) (held s g m x (untraced ws) i o .2 f l)), m))))
 
-  raw-represents : (s : State) (g : Graph) (m : Represents Y s g) (x f w : ℕ) (ws : List ℕ) → In x (m .ids) → nth g x ≡ untraced ws → f < length ws
+  raw-represents : (s : State) (g : Graph) (m : Represents Y s g) (x f w : ℕ) (ws : List ℕ) → In x (m .ids)
+      → nth g x ≡ untraced ws → f < length ws
       → Represents Y (withWord s (m .pl x + 1 + f) w) (withObject g x (untraced (set ws f w)))
   raw-represents s g m x f w ws i o l =
       let h = held s g m x (untraced ws) i o in
@@ -212,7 +232,8 @@ module _ (Y : Layout) where
         set-alike (λ a b. b ≡ a) ws 0 w (s .heap) (m .pl x) f w l (field-in s g m x f i u) (h .2) refl,
       )
 
-  pub rawWrite-agrees : (r f n : ℕ) (s : State) (g : Graph) → Represents Y s g → Agrees Y (step Y (Ask.RawWrite r f n) s) (stepᵍ (Ask.RawWrite r f n) g)
+  pub rawWrite-agrees : (r f n : ℕ) (s : State) (g : Graph) → Represents Y s g
+      → Agrees Y (step Y (Ask.RawWrite r f n) s) (stepᵍ (Ask.RawWrite r f n) g)
   unfolding step Calls.rawWrite stepᵍ
   rawWrite-agrees r f n s g m =
       shape-passes Y s g _ _ m

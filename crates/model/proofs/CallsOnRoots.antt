@@ -34,7 +34,8 @@ use Rattle.model.proofs.Tests.{never, same?, or-none}
 
 module _ (Y : Layout) where
   -- a root is set
-  pub root-represents : (s : State) (g : Graph) (m : Represents Y s g) (r w : ℕ) (v : Value) → Rep Y (m .ids) (m .pl) v w → Represents Y (withRoot s r w) (withRootᵍ g r v)
+  pub root-represents : (s : State) (g : Graph) (m : Represents Y s g) (r w : ℕ) (v : Value) → Rep Y (m .ids) (m .pl) v w
+      → Represents Y (withRoot s r w) (withRootᵍ g r v)
   root-represents s g m r w v e = record {
     ok = root-sound Y s (m .ok) r w (rep-value Y s g m v w e);
     ids = m .ids;
@@ -61,7 +62,8 @@ module _ (Y : Layout) where
   unfolding step Calls.check stepᵍ
   check-agrees s g m = shape-passes Y s g _ _ m (rw (sound-whole Y s (m .ok)) (refl, m))
 
-  pub setInteger-agrees : (r : ℕ) (v : ℤ) (s : State) (g : Graph) → Represents Y s g → Agrees Y (step Y (Ask.SetInteger r v) s) (stepᵍ (Ask.SetInteger r v) g)
+  pub setInteger-agrees : (r : ℕ) (v : ℤ) (s : State) (g : Graph) → Represents Y s g
+      → Agrees Y (step Y (Ask.SetInteger r v) s) (stepᵍ (Ask.SetInteger r v) g)
   unfolding step Calls.setInteger stepᵍ
   setInteger-agrees r v s g m =
       shape-passes Y s g _ _ m
@@ -83,8 +85,11 @@ module _ (Y : Layout) where
   unfolding step Calls.copy stepᵍ
   copy-agrees p q s g m =
       shape-passes Y s g _ _ m
-      (refuse-agrees Y (noRoot s p || noRoot s q) (noRootᵍ g p || noRootᵍ g q) Why.Root s g _ _ m (two-roots s g p q m) (λ a.
-      (refl, root-represents s g m q (rootWord s p) (rootValue g p) (m .roots p (has-root s g m p (or-none (noRoot s p) (noRoot s q) a .0))))))
+      (refuse-agrees Y (noRoot s p || noRoot s q) (noRootᵍ g p || noRootᵍ g q) Why.Root s g _ _ m (two-roots s g p q m) (λ a. (
+        refl,
+        root-represents s g m q (rootWord s p) (rootValue g p)
+            (m .roots p (has-root s g m p (or-none (noRoot s p) (noRoot s q) a .0))),
+      )))
 
   -- two words are equal exactly where their values are the same
   eqb-both : (a b c d : ℕ) → (a ≡ b → c ≡ d) → (c ≡ d → a ≡ b) → eqb a b ≡ eqb c d
@@ -116,11 +121,13 @@ module _ (Y : Layout) where
   same-plain null null h k = refl
 
   -- a plain value's word is no object's address
-  plain-apart : (s : State) (g : Graph) (m : Represents Y s g) (p : Plain) (x : ℕ) → hasWord p ≡ true → In x (m .ids) → plainWord p ≡ address Y (m .pl x) → ⊥
+  plain-apart : (s : State) (g : Graph) (m : Represents Y s g) (p : Plain) (x : ℕ) → hasWord p ≡ true → In x (m .ids)
+      → plainWord p ≡ address Y (m .pl x) → ⊥
   plain-apart s g m p x h i e =
       never (header-is-address Y s (m .ok) (m .pl x) (m .head x i)) (ap isAddress (sym e) ∙ plain-no-address p h)
 
-  same-word : (s : State) (g : Graph) (m : Represents Y s g) (v v′ : Value) (w w′ : ℕ) → Rep Y (m .ids) (m .pl) v w → Rep Y (m .ids) (m .pl) v′ w′
+  same-word : (s : State) (g : Graph) (m : Represents Y s g) (v v′ : Value) (w w′ : ℕ) → Rep Y (m .ids) (m .pl) v w
+      → Rep Y (m .ids) (m .pl) v′ w′
       → eqb w w′ ≡ sameValue v v′
   same-word s g m (plain a) (plain b) w w′ e e′ = rw (e .1, e′ .1) (same-plain a b (e .0) (e′ .0))
   same-word s g m (plain a) (object y) w w′ e e′ =
@@ -140,7 +147,8 @@ module _ (Y : Layout) where
       (refuse-agrees Y (noRoot s p || noRoot s q) (noRootᵍ g p || noRootᵍ g q) Why.Root s g _ _ m (two-roots s g p q m) (λ a.
       let b = or-none (noRoot s p) (noRoot s q) a in (
         ap (λ x. cond x Says.Yes Says.No)
-            (same-word s g m (rootValue g p) (rootValue g q) (rootWord s p) (rootWord s q) (m .roots p (has-root s g m p (b .0))) (m .roots q (has-root s g m q (b .1)))),
+            (same-word s g m (rootValue g p) (rootValue g q) (rootWord s p) (rootWord s q)
+            (m .roots p (has-root s g m p (b .0))) (m .roots q (has-root s g m q (b .1)))),
         m,
       )))
 

@@ -72,10 +72,12 @@ module _ (Y : Layout) (s : State) (h : Sound Y s) where
   new-free = ap (λ x. otherFirst s + x) (ws-length ∙ sym live-is)
 
   -- each word of the new half, below the copies' end and past it
-  pub new-at : (m : ℕ) → m < length cs → at (s′ .heap) (otherFirst s + m) ≡ settle Y (s .heap) (order Y s) (otherFirst s) (getD cs m (still 0))
+  pub new-at : (m : ℕ) → m < length cs → at (s′ .heap) (otherFirst s + m)
+      ≡ settle Y (s .heap) (order Y s) (otherFirst s) (getD cs m (still 0))
   unfolding copied
   new-at m l =
-      build-new (other (s .«record» .half)) S m (filled S ws) (replicate S 0) (filled-length S ws ws-fits) (length-replicate S 0) (omega (arith, order-fits Y s h))
+      build-new (other (s .«record» .half)) S m (filled S ws) (replicate S 0) (filled-length S ws ws-fits)
+      (length-replicate S 0) (omega (arith, order-fits Y s h))
       ∙ filled-in S m ws (omega (arith, ws-length))
       ∙ getD-map (settle Y (s .heap) (order Y s) (otherFirst s)) cs m (still 0) 0 l
 
@@ -120,7 +122,8 @@ module _ (Y : Layout) (s : State) (h : Sound Y s) where
   new-header i m = ap (λ x. at (s′ .heap) x) (sym (add-zero (D.copyIndex Y s i))) ∙ new-cell i 0 m (omega arith)
 
   pub new-field : (i f : ℕ) → In i (order Y s) → f < fieldCount Y (s .heap) i
-      → at (s′ .heap) (D.copyIndex Y s i + 1 + f) ≡ settle Y (s .heap) (order Y s) (otherFirst s) (fieldCell (kind Y (s .heap) i) (at (s .heap) (i + 1 + f)))
+      → at (s′ .heap) (D.copyIndex Y s i + 1 + f) ≡ settle Y (s .heap) (order Y s) (otherFirst s)
+      (fieldCell (kind Y (s .heap) i) (at (s .heap) (i + 1 + f)))
   new-field i f m l =
       let n = fields-length Y (s .heap) i (order-tile i m .0) in
       let e : D.copyIndex Y s i + 1 + f ≡ D.copyIndex Y s i + suc f = omega arith in

@@ -37,26 +37,33 @@ module _ (Y : Layout) (s : State) (h : Sound Y s) where
   order-count [] = omega arith
   order-count (i ∷ o′) = let ih = order-count o′ in rw length-append (omega arith)
 
-  pub new-tiled : (tiles Y (s′ .heap) (free s′) (free s′ - firstWord s′) (firstWord s′) ≡ true) × (headers Y s′ ≡ map (D.copyIndex Y s) (order Y s))
+  pub new-tiled : (tiles Y (s′ .heap) (free s′) (free s′ - firstWord s′) (firstWord s′) ≡ true)
+      × (headers Y s′ ≡ map (D.copyIndex Y s) (order Y s))
   new-tiled =
       rw (new-free Y s h, new-first Y s h)
       (copies-tiled Y (s .heap) (s′ .heap) (order Y s) (otherFirst s + live Y s) (otherFirst s) (otherFirst s + live Y s - otherFirst s)
       (orderAt-distinct Y s h (halfWords (s .heap)))
       (ap (λ x. otherFirst s + x) (live-is Y s h))
       (omega (arith, order-count (order Y s), live-is Y s h))
-      (λ x m. record { head = new-header Y s h x m; clear = order-tile Y s h x m .1; whole = cells-length Y (s .heap) x (order-tile Y s h x m .0) }))
+      (λ x m. record {
+        head = new-header Y s h x m;
+        clear = order-tile Y s h x m .1;
+        whole = cells-length Y (s .heap) x (order-tile Y s h x m .0);
+      }))
 
   -- what a word becomes
   pub becomes : (w : ℕ) → D.Became Y s w (rename Y (s .heap) (order Y s) (otherFirst s) w)
   unfolding rename
   becomes w = record { stays = λ p. rw p; moves = λ p. rw p }
 
-  renamed-value : (w : ℕ) → (isAddress w ≡ true → In (index Y w) (order Y s)) → isValue Y (headers Y s′) (rename Y (s .heap) (order Y s) (otherFirst s) w) ≡ true
+  renamed-value : (w : ℕ) → (isAddress w ≡ true → In (index Y w) (order Y s))
+      → isValue Y (headers Y s′) (rename Y (s .heap) (order Y s) (otherFirst s) w) ≡ true
   renamed-value w f =
       ⊎-elim
       (λ (p : isAddress w ≡ true).
       rw (becomes w .moves p, new-tiled .1)
-      (address-value Y (map (D.copyIndex Y s) (order Y s)) (D.copyIndex Y s (index Y w)) (in-map (D.copyIndex Y s) (index Y w) (order Y s) (f p))))
+      (address-value Y (map (D.copyIndex Y s) (order Y s)) (D.copyIndex Y s (index Y w))
+      (in-map (D.copyIndex Y s) (index Y w) (order Y s) (f p))))
       (λ (p : isAddress w ≡ false). rw (becomes w .stays p) (plain-value Y (headers Y s′) w p))
       (by-test (isAddress w))
 
@@ -84,7 +91,8 @@ module _ (Y : Layout) (s : State) (h : Sound Y s) where
   traced-field x f m k l =
       new-field Y s h x f m l ∙ ap (λ z. settle Y (s .heap) (order Y s) (otherFirst s) (fieldCell z (at (s .heap) (x + 1 + f)))) k
 
-  new-value : (x f : ℕ) → In x (order Y s) → kind Y (s′ .heap) (D.copyIndex Y s x) ≡ Traced → f < fieldCount Y (s′ .heap) (D.copyIndex Y s x)
+  new-value : (x f : ℕ) → In x (order Y s) → kind Y (s′ .heap) (D.copyIndex Y s x) ≡ Traced
+      → f < fieldCount Y (s′ .heap) (D.copyIndex Y s x)
       → isValue Y (headers Y s′) (at (s′ .heap) (D.copyIndex Y s x + 1 + f)) ≡ true
   new-value x f m k l =
       let k′ : kind Y (s .heap) x ≡ Traced = sym (new-kind x m) ∙ k in
@@ -101,13 +109,15 @@ module _ (Y : Layout) (s : State) (h : Sound Y s) where
         ap (λ x. at (s′ .heap) x) (sym e) ∙ new-old Y s h (i - firstWord s) (omega (arith, new-other Y s h, new-room Y s h));
     rest = λ i l k.
         let e : otherFirst s + (i - otherFirst s) ≡ i = omega (arith, new-free Y s h) in
-        ap (λ x. at (s′ .heap) x) (sym e) ∙ new-rest Y s h (i - otherFirst s) (omega (arith, new-free Y s h, live-is Y s h)) (omega (arith, new-first Y s h, new-room Y s h, new-free Y s h));
+        ap (λ x. at (s′ .heap) x) (sym e) ∙ new-rest Y s h (i - otherFirst s) (omega (arith, new-free Y s h, live-is Y s h))
+        (omega (arith, new-first Y s h, new-room Y s h, new-free Y s h));
     tiled = new-tiled .0;
     roots = λ r l.
         let k : r < length (s .roots) = omega (arith, new-roots Y s h) in
         rw (new-root Y s h r k) (renamed-value (at (s .roots) r) (λ p. reach-order (index Y (at (s .roots) r)) (D.fromRoot r k p)));
     values = λ i f m k l.
         let t = map-in-out (D.copyIndex Y s) i (order Y s) (rw (new-tiled .1) at m) in
-        subst (λ x. kind Y (s′ .heap) x ≡ Traced → f < fieldCount Y (s′ .heap) x → isValue Y (headers Y s′) (at (s′ .heap) (x + 1 + f)) ≡ true)
+        subst (λ x. kind Y (s′ .heap) x ≡ Traced → f < fieldCount Y (s′ .heap) x
+        → isValue Y (headers Y s′) (at (s′ .heap) (x + 1 + f)) ≡ true)
         (t .2) (λ k′ l′. new-value (t .0) f (t .1) k′ l′) k l;
   }

@@ -129,8 +129,15 @@ module _ (Y : Layout) (s : State) (r : ℕ) where
   module _ (n : names Y s (rootWord s r) ≡ true) where
     pub kind-decides : (k : Kind) → Decides (not (isOfKind k (kind Y (s .heap) (index Y (rootWord s r))))) (Row.OtherKind Y s k r)
     kind-decides k = record {
-      holds = λ e. (n, kind-other k (kind Y (s .heap) (index Y (rootWord s r))) (not-true (isOfKind k (kind Y (s .heap) (index Y (rootWord s r)))) e));
-      fails = λ e o. o .1 (kind-same k (kind Y (s .heap) (index Y (rootWord s r))) (not-false (isOfKind k (kind Y (s .heap) (index Y (rootWord s r)))) e));
+      holds =
+          λ e. (
+            n,
+            kind-other k (kind Y (s .heap) (index Y (rootWord s r)))
+                (not-true (isOfKind k (kind Y (s .heap) (index Y (rootWord s r)))) e),
+          );
+      fails =
+          λ e o. o .1 (kind-same k (kind Y (s .heap) (index Y (rootWord s r)))
+          (not-false (isOfKind k (kind Y (s .heap) (index Y (rootWord s r)))) e));
     }
 
     pub field-decides : (f : ℕ) → Decides (leb (fieldCount Y (s .heap) (index Y (rootWord s r))) f) (Row.NoField Y s r f)

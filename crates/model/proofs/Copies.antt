@@ -23,11 +23,13 @@ module _ (Y : Layout) where
   unfolding wordsBefore
   wordsBefore-here H o j = rw (eq-eqb j j refl)
 
-  pub wordsBefore-there : (H o : List ℕ) (j x : ℕ) → Out j o → In x o → wordsBefore (cells Y H) (j ∷ o) x ≡ length (cells Y H j) + wordsBefore (cells Y H) o x
+  pub wordsBefore-there : (H o : List ℕ) (j x : ℕ) → Out j o → In x o
+      → wordsBefore (cells Y H) (j ∷ o) x ≡ length (cells Y H j) + wordsBefore (cells Y H) o x
   unfolding wordsBefore
   wordsBefore-there H o j x u m = rw (ne-eqb x j (in-out x j o m u))
 
-  pub wordsBefore-nth : (H o : List ℕ) (k : ℕ) → Distinct o → k < length o → wordsBefore (cells Y H) o (getD o k 0) ≡ length (packed (cells Y H) (take k o))
+  pub wordsBefore-nth : (H o : List ℕ) (k : ℕ) → Distinct o → k < length o
+      → wordsBefore (cells Y H) o (getD o k 0) ≡ length (packed (cells Y H) (take k o))
   unfolding packed
   wordsBefore-nth H [] k u l = absurd (omega arith)
   wordsBefore-nth H (j ∷ o) zero u l = wordsBefore-here H o j
@@ -55,7 +57,8 @@ module _ (Y : Layout) where
       let b = wordsBefore-here H o j in
       let hd : at H′ i ≡ at H j = rw (b, add-zero) at (c .head) in
       let sz : size Y H′ i ≡ length (cells Y H j) = ap (λ w. Y .countOf w + 1) hd ∙ sym (c .whole) in
-      let le : length (cells Y H j ++ packed (cells Y H) o) ≡ length (cells Y H j) + length (packed (cells Y H) o) = length-append (cells Y H j) (packed (cells Y H) o) in
+      let le : length (cells Y H j ++ packed (cells Y H) o) ≡ length (cells Y H j) + length (packed (cells Y H) o) =
+      length-append (cells Y H j) (packed (cells Y H) o) in
       let pos : 1 ≤ length (cells Y H j) = omega (arith, c .whole) in
       let ih = copies-tiled H H′ o e (i + size Y H′ i) n (u .1) (omega arith) (omega arith)
       (λ x m.

@@ -40,7 +40,8 @@ module _ (Y : Layout) where
   judged-settled s qs o (by-none n p) = passed n p
 
   -- what a refused outcome leaves
-  judged-left : (s : State) (qs : List Row.Row) (o : Outcome) (k : Refusal) → Judged Y s qs o → o .answer ≡ Says.Refused k → Left Y s k (o .left)
+  judged-left : (s : State) (qs : List Row.Row) (o : Outcome) (k : Refusal) → Judged Y s qs o → o .answer ≡ Says.Refused k
+      → Left Y s k (o .left)
   judged-left s qs o k (by-row j f e l) a = subst (λ z. Left Y s z (o .left)) (refused-same j k (sym e ∙ a)) l
   judged-left s qs o k (by-none n p) a = absurd (p k a)
 
@@ -68,7 +69,8 @@ module _ (Y : Layout) where
       (by-test (badLength (length (s .heap))))
 
   -- the window: its place by the same rows
-  place-after : (b : Bool) (k : Refusal) (P : Type 0) (qs : List Row.Row) (p : Place) → Decides b P → (b ≡ false → Settled qs (λ j. p ≡ Place.Refused j))
+  place-after : (b : Bool) (k : Refusal) (P : Type 0) (qs : List Row.Row) (p : Place) → Decides b P
+      → (b ≡ false → Settled qs (λ j. p ≡ Place.Refused j))
       → Settled (Row.row k P ∷ qs) (λ j. cond b (Place.Refused k) p ≡ Place.Refused j)
   place-after true k P qs p d f = refused k (inl (d .holds refl, refl)) refl
   place-after false k P qs p d f = go (f refl)
@@ -107,8 +109,12 @@ module _ (Y : Layout) where
 
   pub demand1 : D1.Demand1 Y (machine Y)
   demand1 = record {
-    session = λ c s. settled-refuses (Row.rows Y c s) _ (one-refusal (step Y c s)) (judged-settled s (Row.rows Y c s) (step Y c s) (step-judged Y s c));
-    fresh = λ s. settled-refuses (Row.freshRows s) _ (one-refusal (fresh s)) (judged-settled s (Row.freshRows s) (fresh s) (fresh-judged s));
+    session =
+        λ c s. settled-refuses (Row.rows Y c s) _ (one-refusal (step Y c s))
+        (judged-settled s (Row.rows Y c s) (step Y c s) (step-judged Y s c));
+    fresh =
+        λ s. settled-refuses (Row.freshRows s) _ (one-refusal (fresh s))
+        (judged-settled s (Row.freshRows s) (fresh s) (fresh-judged s));
     opened = λ r s. settled-refuses (Row.windowRows Y r s) _ (one-place (window Y r s)) (window-settled r s);
     lowest = rows-rise;
     keeps = λ c s k e n. left-unchanged s (step Y c s .left) k (judged-left s (Row.rows Y c s) (step Y c s) k (step-judged Y s c) e) n;

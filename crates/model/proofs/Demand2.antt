@@ -72,7 +72,8 @@ module _ (Y : Layout) (s : State) (h : Sound Y s) where
     rootCount = new-roots Y s h;
     root = λ r l. rw (new-root Y s h r l) (becomes Y s h (at (s .roots) r));
     shared = λ i j a b e.
-        wordsBefore-apart (cells Y (s .heap)) (λ x. omega arith) (order Y s) i j (reach-order Y s h i a) (reach-order Y s h j b) (omega arith);
+        wordsBefore-apart (cells Y (s .heap)) (λ x. omega arith) (order Y s) i j (reach-order Y s h i a) (reach-order Y s h j b)
+        (omega arith);
     sameLength = new-length Y s h;
     otherHalf = new-half Y s h;
     cleared = sound-zero Y s′ (new-sound Y s h);
@@ -86,4 +87,8 @@ unfolding step Calls.collect refuse
 demand2 Y s e =
     let h = sound-parts Y s e in
     let o : step Y Ask.Collect s ≡ says (Says.Live (live Y s)) (collected Y s) = rw (unshaped s (h .shape), e) in
-    record { L = live Y s; answers = ap (λ z. z .answer) o; leaves = subst (λ z. D.Collects Y s (z .left) (live Y s)) (sym o) (collects Y s h) }
+    record {
+      L = live Y s;
+      answers = ap (λ z. z .answer) o;
+      leaves = subst (λ z. D.Collects Y s (z .left) (live Y s)) (sym o) (collects Y s h);
+    }

@@ -34,10 +34,16 @@ demand3-of Y law = record {
       let s = D3.begun (machine Y) words n q in
       let t = after-represents Y law cs (D3.begun (machine Y) words n q) (emptyGraph n) (begun-represents Y words S n q v few) in
       let e : halfWords (after (machine Y) cs (D3.begun (machine Y) words n q) .heap) ≡ S = t .1 ∙ begun-half Y words S n q v few in
-      let d = allocate-room Y k m r (after (machine Y) cs (D3.begun (machine Y) words n q)) (t .0 .ok) (omega (arith, t .2, begun-roots Y words S n q v few)) u in
-      let w = live-same Y (after (machine Y) cs (D3.begun (machine Y) words n q)) (afterᵍ (D3.carriedOut (machine Y) cs (D3.begun (machine Y) words n q)) (emptyGraph n)) (t .0) in
+      let d = allocate-room Y k m r (after (machine Y) cs (D3.begun (machine Y) words n q)) (t .0 .ok)
+      (omega (arith, t .2, begun-roots Y words S n q v few)) u in
+      let w = live-same Y (after (machine Y) cs (D3.begun (machine Y) words n q))
+      (afterᵍ (D3.carriedOut (machine Y) cs (D3.begun (machine Y) words n q)) (emptyGraph n)) (t .0) in
       (λ x. let y = d .0 x in omega arith, λ x. d .1 (omega arith));
-  listable = λ cs n. (orderᵍ (afterᵍ cs (emptyGraph n)) (totalWords (afterᵍ cs (emptyGraph n) .objects)), lists-whole (afterᵍ cs (emptyGraph n)) (session-known cs n));
+  listable =
+      λ cs n. (
+        orderᵍ (afterᵍ cs (emptyGraph n)) (totalWords (afterᵍ cs (emptyGraph n) .objects)),
+        lists-whole (afterᵍ cs (emptyGraph n)) (session-known cs n),
+      );
   live = λ cs n o l. live-listed (afterᵍ cs (emptyGraph n)) (session-known cs n) o l;
   keepsSound = step-sound Y law;
   staysSound = λ words S n q cs v few.

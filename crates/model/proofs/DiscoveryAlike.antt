@@ -50,7 +50,8 @@ module _ (ids : List ℕ) (pl : ℕ → ℕ) (apart : (x y : ℕ) → In x ids �
       ))
       (by-test (mem x o))
 
-  pub visits-along : (o : List ℕ) (ls ls′ : List (Option ℕ)) → length ls ≡ length ls′ → ((k : ℕ) → k < length ls → Along (getD ls k none) (getD ls′ k none)) → Inside o
+  pub visits-along : (o : List ℕ) (ls ls′ : List (Option ℕ)) → length ls ≡ length ls′
+      → ((k : ℕ) → k < length ls → Along (getD ls k none) (getD ls′ k none)) → Inside o
       → (visits (map pl o) ls′ ≡ map pl (visits o ls)) × Inside (visits o ls)
   unfolding visits
   visits-along o [] [] e f n = (refl, n)
@@ -64,7 +65,8 @@ module _ (ids : List ℕ) (pl : ℕ → ℕ) (apart : (x y : ℕ) → In x ids �
   module _ {C D : Type 0} (cells : ℕ → List C) (blank : C) (leads : C → Option ℕ) (cells′ : ℕ → List D) (blank′ : D) (leads′ : D → Option ℕ)
       (quiet : leads blank ≡ none) (quiet′ : leads′ blank′ ≡ none)
       (sizes : (x : ℕ) → In x ids → length (cells′ (pl x)) ≡ length (cells x))
-      (alike : (x k : ℕ) → In x ids → k < length (cells x) → Along (leads (getD (cells x) k blank)) (leads′ (getD (cells′ (pl x)) k blank′))) where
+      (alike : (x k : ℕ) → In x ids → k < length (cells x)
+      → Along (leads (getD (cells x) k blank)) (leads′ (getD (cells′ (pl x)) k blank′))) where
     pub packed-sizes : (o : List ℕ) → Inside o → length (packed cells′ (map pl o)) ≡ length (packed cells o)
     unfolding packed
     packed-sizes [] n = refl
@@ -73,7 +75,8 @@ module _ (ids : List ℕ) (pl : ℕ → ℕ) (apart : (x y : ℕ) → In x ids �
         let s = sizes x (n x (in-self x o)) in
         rw (length-append (cells′ (pl x)) (packed cells′ (map pl o)), length-append (cells x) (packed cells o)) (omega arith)
 
-    packed-along : (o : List ℕ) (p : ℕ) → Inside o → Along (leads (getD (packed cells o) p blank)) (leads′ (getD (packed cells′ (map pl o)) p blank′))
+    packed-along : (o : List ℕ) (p : ℕ) → Inside o → Along (leads (getD (packed cells o) p blank))
+        (leads′ (getD (packed cells′ (map pl o)) p blank′))
     unfolding packed
     packed-along [] p n = rw (quiet, quiet′)
     packed-along (x ∷ o) p n =
@@ -81,7 +84,10 @@ module _ (ids : List ℕ) (pl : ℕ → ℕ) (apart : (x y : ℕ) → In x ids �
         let s = sizes x i in
         ⊎-elim
         (λ (l : p < length (cells x)).
-        rw (List·getD-append (cells x) (packed cells o) blank p l, List·getD-append (cells′ (pl x)) (packed cells′ (map pl o)) blank′ p (omega arith))
+        rw (
+          List·getD-append (cells x) (packed cells o) blank p l,
+          List·getD-append (cells′ (pl x)) (packed cells′ (map pl o)) blank′ p (omega arith),
+        )
         (alike x p i l))
         (λ (l : length (cells x) ≤ p).
         let q = p - length (cells x) in
@@ -90,22 +96,27 @@ module _ (ids : List ℕ) (pl : ℕ → ℕ) (apart : (x y : ℕ) → In x ids �
         let a : getD (cells x ++ packed cells o) p blank ≡ getD (packed cells o) q blank =
         ap (λ z. getD (cells x ++ packed cells o) z blank) e ∙ getD-append-add (cells x) (packed cells o) q blank in
         let a′ : getD (cells′ (pl x) ++ packed cells′ (map pl o)) p blank′ ≡ getD (packed cells′ (map pl o)) q blank′ =
-        ap (λ z. getD (cells′ (pl x) ++ packed cells′ (map pl o)) z blank′) e′ ∙ getD-append-add (cells′ (pl x)) (packed cells′ (map pl o)) q blank′ in
+        ap (λ z. getD (cells′ (pl x) ++ packed cells′ (map pl o)) z blank′) e′
+        ∙ getD-append-add (cells′ (pl x)) (packed cells′ (map pl o)) q blank′ in
         rw (a, a′) (packed-along o q (λ z k. n z (in-tail z x o k))))
         (decide p (length (cells x)))
 
-    module _ (R R′ : List (Option ℕ)) (many : length R ≡ length R′) (start : (k : ℕ) → k < length R → Along (getD R k none) (getD R′ k none)) where
-      pub found-along : (p : ℕ) → (found cells′ blank′ leads′ R′ p ≡ map pl (found cells blank leads R p)) × Inside (found cells blank leads R p)
+    module _ (R R′ : List (Option ℕ)) (many : length R ≡ length R′)
+        (start : (k : ℕ) → k < length R → Along (getD R k none) (getD R′ k none)) where
+      pub found-along : (p : ℕ) → (found cells′ blank′ leads′ R′ p ≡ map pl (found cells blank leads R p))
+          × Inside (found cells blank leads R p)
       unfolding found
       found-along zero = visits-along [] R R′ many start (λ x m. in-nil x m)
       found-along (suc p) =
           let ih = found-along p in
           let o = found cells blank leads R p in
-          let v = visit-along o (leads (getD (packed cells o) p blank)) (leads′ (getD (packed cells′ (map pl o)) p blank′)) (ih .1) (packed-along o p (ih .1)) in
+          let v = visit-along o (leads (getD (packed cells o) p blank)) (leads′ (getD (packed cells′ (map pl o)) p blank′))
+          (ih .1) (packed-along o p (ih .1)) in
           (ap (λ z. visit z (leads′ (getD (packed cells′ z) p blank′))) (ih .0) ∙ v .0, v .1)
 
 -- where every cell is passed, more steps change nothing
-pub found-settled : {C : Type 0} (cells : ℕ → List C) (blank : C) (leads : C → Option ℕ) (R : List (Option ℕ)) → leads blank ≡ none → (p q : ℕ)
+pub found-settled : {C : Type 0} (cells : ℕ → List C) (blank : C) (leads : C → Option ℕ) (R : List (Option ℕ))
+    → leads blank ≡ none → (p q : ℕ)
     → length (packed cells (found cells blank leads R p)) ≤ p → length (packed cells (found cells blank leads R q)) ≤ q
     → found cells blank leads R p ≡ found cells blank leads R q
 found-settled cells blank leads R quiet p q a b =

@@ -29,16 +29,20 @@ use Rattle.model.proofs.Visits.{Starts, starts-in, visits-has}
 
 module _ (Y : Layout) where
   -- a longer order renames what it leads to alike
-  pub rename-stable : (H o o′ : List ℕ) (b w : ℕ) → Starts o o′ → ((i : ℕ) → wordLeads Y w ≡ some i → In i o) → rename Y H o′ b w ≡ rename Y H o b w
+  pub rename-stable : (H o o′ : List ℕ) (b w : ℕ) → Starts o o′ → ((i : ℕ) → wordLeads Y w ≡ some i → In i o)
+      → rename Y H o′ b w ≡ rename Y H o b w
   unfolding rename
   rename-stable H o o′ b w t f =
       ⊎-elim
       (λ (q : isAddress w ≡ true).
-      rw q (ap (λ z. address Y (b + z)) (ap (λ z. wordsBefore (cells Y H) z (index Y w)) (t .1) ∙ wordsBefore-append (cells Y H) o (t .0) (index Y w) (f (index Y w) (address-leads Y w q)))))
+      rw q (ap (λ z. address Y (b + z))
+      (ap (λ z. wordsBefore (cells Y H) z (index Y w)) (t .1)
+      ∙ wordsBefore-append (cells Y H) o (t .0) (index Y w) (f (index Y w) (address-leads Y w q)))))
       (λ (q : isAddress w ≡ false). rw q)
       (by-test (isAddress w))
 
-  pub settle-stable : (H o o′ : List ℕ) (b : ℕ) (c : Cell) → Starts o o′ → ((i : ℕ) → cellLeads Y c ≡ some i → In i o) → settle Y H o′ b c ≡ settle Y H o b c
+  pub settle-stable : (H o o′ : List ℕ) (b : ℕ) (c : Cell) → Starts o o′ → ((i : ℕ) → cellLeads Y c ≡ some i → In i o)
+      → settle Y H o′ b c ≡ settle Y H o b c
   settle-stable H o o′ b (still w) t f = refl
   settle-stable H o o′ b (value w) t f = rename-stable H o o′ b w t f
 
@@ -66,7 +70,8 @@ module _ (Y : Layout) (s : State) (h : Sound Y s) (p : ℕ) where
   root-found r i e =
       let C = cells Y (s .heap) in
       let R = map (wordLeads Y) (s .roots) in
-      starts-in i (found C (still 0) (cellLeads Y) R 0) (found C (still 0) (cellLeads Y) R p) (found-later C (still 0) (cellLeads Y) R 0 p (omega arith))
+      starts-in i (found C (still 0) (cellLeads Y) R 0) (found C (still 0) (cellLeads Y) R p)
+      (found-later C (still 0) (cellLeads Y) R 0 p (omega arith))
       (visits-has [] R r i e)
 
   -- once every word of the copies is passed the order is whole, and the new half, the roots and the record are the collection's
@@ -80,7 +85,8 @@ module _ (Y : Layout) (s : State) (h : Sound Y s) (p : ℕ) where
     same-words : L ≡ length (packed (cells Y (s .heap)) (order Y s))
     same-words = ap (λ z. length (packed (cells Y (s .heap)) z)) ended
 
-    pub end-word : (k : ℕ) → k < halfWords (s .heap) → at (during Y s p .heap) (otherFirst s + k) ≡ at (collected Y s .heap) (otherFirst s + k)
+    pub end-word : (k : ℕ) → k < halfWords (s .heap) → at (during Y s p .heap) (otherFirst s + k)
+        ≡ at (collected Y s .heap) (otherFirst s + k)
     end-word k u =
         ⊎-elim
         (λ (a : k < L).

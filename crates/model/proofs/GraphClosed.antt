@@ -54,7 +54,8 @@ blank-under n m Traced = λ f. rw (getD-same {A = Value} m f (plain null)) tt
 blank-under n m Untraced = tt
 
 root-closed : (g : Graph) (r : ℕ) (v : Value) → Closed g → Under (length (g .objects)) v → Closed (withRootᵍ g r v)
-root-closed g r v c u = record { roots = λ q. set-at (Under (length (g .objects))) (g .roots) r q v (plain null) u (c .roots); fields = c .fields }
+root-closed g r v c u =
+    record { roots = λ q. set-at (Under (length (g .objects))) (g .roots) r q v (plain null) u (c .roots); fields = c .fields }
 
 object-closed : (g : Graph) (i : ℕ) (b : Object) → Closed g → UnderAll (length (g .objects)) b → Closed (withObject g i b)
 object-closed g i b c u =
@@ -78,7 +79,8 @@ grown-closed g k m r c =
           subst (λ z. UnderAll z (getD (g .objects ++ (blankObject k m ∷ [])) i (traced []))) (sym e)
           (⊎-elim
           (λ (l : i < length (g .objects)).
-          rw (List·getD-append (g .objects) (blankObject k m ∷ []) (traced []) i l) (all-more (length (g .objects)) (nth g i) (c .fields i)))
+          rw (List·getD-append (g .objects) (blankObject k m ∷ []) (traced []) i l)
+          (all-more (length (g .objects)) (nth g i) (c .fields i)))
           (λ (l : length (g .objects) ≤ i).
           ⊎-elim
           (λ (q : i ≡ length (g .objects)).
@@ -92,7 +94,8 @@ grown-closed g k m r c =
 -- ---- the calls
 
 -- a traced object's fields name objects of the graph
-traced-under : (g : Graph) (i : ℕ) (vs : List Value) → Closed g → nth g i ≡ traced vs → (f : ℕ) → Under (length (g .objects)) (getD vs f (plain null))
+traced-under : (g : Graph) (i : ℕ) (vs : List Value) → Closed g → nth g i ≡ traced vs → (f : ℕ)
+    → Under (length (g .objects)) (getD vs f (plain null))
 traced-under g i vs c e = subst (UnderAll (length (g .objects))) e (c .fields i)
 
 step-closed : (c : Call) (g : Graph) → Closed g → Closed (stepᵍ c g .left)

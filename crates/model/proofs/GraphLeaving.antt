@@ -37,7 +37,8 @@ pub record Keptᵍ (g : Graph) (P : Outcomeᵍ → Type 0) : Type 0 where
   pub set-plain : (r : ℕ) (p : Plain) → P (saysᵍ Says.Done (withRootᵍ g r (plain p)))
   pub copied : (from to : ℕ) → P (saysᵍ Says.Done (withRootᵍ g to (rootValue g from)))
   pub loaded : (i f to : ℕ) (vs : List Value) → nth g i ≡ traced vs → P (saysᵍ Says.Done (withRootᵍ g to (getD vs f (plain null))))
-  pub stored : (i f from : ℕ) (vs : List Value) → nth g i ≡ traced vs → P (saysᵍ Says.Done (withObject g i (traced (set vs f (rootValue g from)))))
+  pub stored : (i f from : ℕ) (vs : List Value) → nth g i ≡ traced vs
+      → P (saysᵍ Says.Done (withObject g i (traced (set vs f (rootValue g from)))))
   pub written : (i f x : ℕ) (ws : List ℕ) → P (saysᵍ Says.Done (withObject g i (untraced (set ws f x))))
   pub allocated : (k : Kind) (n r : ℕ) → P (saysᵍ Says.Done (grown k n r g))
 
@@ -55,7 +56,8 @@ module _ (g : Graph) (P : Outcomeᵍ → Type 0) (h : Keptᵍ g P) where
   by-kind (untraced ws) t u f w = w ws
 
   on-object : (v : Value) (t : ℕ → List Value → Outcomeᵍ) (u : ℕ → List ℕ → Outcomeᵍ)
-      → ((i : ℕ) (vs : List Value) → nth g i ≡ traced vs → Holds P (t i vs)) → ((i : ℕ) (ws : List ℕ) → Holds P (u i ws)) → Holds P (onObject g v t u)
+      → ((i : ℕ) (vs : List Value) → nth g i ≡ traced vs → Holds P (t i vs)) → ((i : ℕ) (ws : List ℕ) → Holds P (u i ws))
+      → Holds P (onObject g v t u)
   unfolding onObject
   on-object (plain p) t u f w = holds (h .refused Why.Object refl)
   on-object (object i) t u f w = by-kind (nth g i) (t i) (u i) (f i) (w i)
@@ -64,7 +66,8 @@ module _ (g : Graph) (P : Outcomeᵍ → Type 0) (h : Keptᵍ g P) where
   unfolding inspected
   inspects (plain p) = holds (h .answered (plainAnswer p) (plain-plainly p))
   inspects (object i) =
-      by-kind (nth g i) _ _ (λ vs e. holds (h .answered _ (object-plainly Traced (length vs)))) (λ ws. holds (h .answered _ (object-plainly Untraced (length ws))))
+      by-kind (nth g i) _ _ (λ vs e. holds (h .answered _ (object-plainly Traced (length vs))))
+      (λ ws. holds (h .answered _ (object-plainly Untraced (length ws))))
 
   step-holds : (c : Call) → Holds P (stepᵍ c g)
   unfolding stepᵍ
@@ -75,16 +78,23 @@ module _ (g : Graph) (P : Outcomeᵍ → Type 0) (h : Keptᵍ g P) where
   step-holds (Ask.SetNull r) = after _ Why.Root _ refl (holds (h .set-plain r null))
   step-holds (Ask.Copy from to) = after _ Why.Root _ refl (holds (h .copied from to))
   step-holds (Ask.Load r f to) =
-      after _ Why.Root _ refl (on-object (rootValue g r) _ _ (λ i vs e. after _ Why.Field _ refl (holds (h .loaded i f to vs e))) (λ i ws. holds (h .refused Why.Kind refl)))
+      after _ Why.Root _ refl
+      (on-object (rootValue g r) _ _ (λ i vs e. after _ Why.Field _ refl (holds (h .loaded i f to vs e)))
+      (λ i ws. holds (h .refused Why.Kind refl)))
   step-holds (Ask.Store r f from) =
-      after _ Why.Root _ refl (on-object (rootValue g r) _ _ (λ i vs e. after _ Why.Field _ refl (holds (h .stored i f from vs e))) (λ i ws. holds (h .refused Why.Kind refl)))
+      after _ Why.Root _ refl
+      (on-object (rootValue g r) _ _ (λ i vs e. after _ Why.Field _ refl (holds (h .stored i f from vs e)))
+      (λ i ws. holds (h .refused Why.Kind refl)))
   step-holds (Ask.RawRead r f) =
       after _ Why.Root _ refl (on-object (rootValue g r) _ _ (λ i vs e. holds (h .refused Why.Kind refl))
       (λ i ws. after _ Why.Field _ refl (holds (h .answered _ (plainly (Says.Number (getD ws f 0)) refl)))))
   step-holds (Ask.RawWrite r f x) =
-      after _ Why.Root _ refl (on-object (rootValue g r) _ _ (λ i vs e. holds (h .refused Why.Kind refl)) (λ i ws. after _ Why.Field _ refl (holds (h .written i f x ws))))
+      after _ Why.Root _ refl
+      (on-object (rootValue g r) _ _ (λ i vs e. holds (h .refused Why.Kind refl))
+      (λ i ws. after _ Why.Field _ refl (holds (h .written i f x ws))))
   step-holds (Ask.Same r q) =
-      after _ Why.Root _ refl (holds (h .answered _ (either-plainly (sameValue (rootValue g r) (rootValue g q)) Says.Yes Says.No refl refl)))
+      after _ Why.Root _ refl
+      (holds (h .answered _ (either-plainly (sameValue (rootValue g r) (rootValue g q)) Says.Yes Says.No refl refl)))
   step-holds (Ask.Inspect r) = after _ Why.Root _ refl (inspects (rootValue g r))
 
   pub graph-step : (c : Call) → P (stepᵍ c g)

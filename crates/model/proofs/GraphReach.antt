@@ -20,15 +20,19 @@ lead-value : (v : Value) (i : ℕ) → valueLeads v ≡ some i → v ≡ object 
 lead-value (plain p) i e = absurd (no-some i e)
 lead-value (object j) i e = ap object (some-same j i e)
 
-cell-value : (b : Object) (k j : ℕ) → getD (objectCells b) k none ≡ some j → (vs : List Value) × (b ≡ traced vs) × ((f : ℕ) × (getD vs f (plain null) ≡ object j))
+cell-value : (b : Object) (k j : ℕ) → getD (objectCells b) k none ≡ some j
+    → (vs : List Value) × (b ≡ traced vs) × ((f : ℕ) × (getD vs f (plain null) ≡ object j))
 cell-value (traced vs) zero j e = absurd (no-some j e)
-cell-value (traced vs) (suc f) j e = (vs, refl, (f, lead-value (getD vs f (plain null)) j (sym (List·getD-map valueLeads vs f (plain null)) ∙ e)))
+cell-value (traced vs) (suc f) j e =
+    (vs, refl, (f, lead-value (getD vs f (plain null)) j (sym (List·getD-map valueLeads vs f (plain null)) ∙ e)))
 cell-value (untraced ws) zero j e = absurd (no-some j e)
 cell-value (untraced ws) (suc f) j e = absurd (no-some j (sym (getD-same {A = Option ℕ} (length ws) f none) ∙ e))
 
 cells-size : (b : Object) → length (objectCells b) ≡ D3.sizeᵍ b
 cells-size (traced vs) = let z = length-map vs valueLeads in omega arith
-cells-size (untraced ws) = let z : length {A = Option ℕ} (replicate (length ws) none) ≡ length ws = length-replicate (length ws) none in omega arith
+cells-size (untraced ws) =
+    let z : length {A = Option ℕ} (replicate (length ws) none) ≡ length ws = length-replicate (length ws) none in
+    omega arith
 
 module _ (g : Graph) where
   abbrev Reachedᵍ : ℕ → Type 0
@@ -43,7 +47,8 @@ module _ (g : Graph) where
   reach-reached : (i : ℕ) → D3.Reachᵍ g i → Reachedᵍ i
   reach-reached j (D3.fromRoot r {i} e) = root r (List·getD-map valueLeads (g .roots) r (plain null) ∙ ap valueLeads e)
   reach-reached k (D3.fromField f {i} {j} vs r e v) =
-      cell (suc f) (reach-reached i r) (ap (λ b. getD (objectCells b) (suc f) none) e ∙ List·getD-map valueLeads vs f (plain null) ∙ ap valueLeads v)
+      cell (suc f) (reach-reached i r)
+      (ap (λ b. getD (objectCells b) (suc f) none) e ∙ List·getD-map valueLeads vs f (plain null) ∙ ap valueLeads v)
 
   words-sizes : (o : List ℕ) → length (packed (graphCells g) o) ≡ D3.sizesᵍ g o
   unfolding packed
@@ -61,7 +66,8 @@ module _ (g : Graph) where
 
     found-listed : (i : ℕ) → In i whole → D3.Reachᵍ g i
     unfolding orderᵍ
-    found-listed i m = reached-reach i (found-reach (graphCells g) none itself (map valueLeads (g .roots)) refl (totalWords (g .objects)) i m)
+    found-listed i m =
+        reached-reach i (found-reach (graphCells g) none itself (map valueLeads (g .roots)) refl (totalWords (g .objects)) i m)
 
     whole-distinct : Distinct whole
     unfolding orderᵍ
@@ -69,12 +75,15 @@ module _ (g : Graph) where
 
     whole-fits : length (packed (graphCells g) whole) ≤ totalWords (g .objects)
     whole-fits =
-        let w = packed-within (graphCells g) whole (below (length (g .objects))) whole-distinct (λ x i. in-below x (length (g .objects)) (known x (found-listed x i))) in
+        let w = packed-within (graphCells g) whole (below (length (g .objects))) whole-distinct (λ x i.
+        in-below x (length (g .objects)) (known x (found-listed x i))) in
         omega (arith, total-packed (g .objects))
 
     listed-found : (i : ℕ) → D3.Reachᵍ g i → In i whole
     unfolding orderᵍ
-    listed-found i r = reach-found (graphCells g) none itself (map valueLeads (g .roots)) refl (totalWords (g .objects)) whole-fits i (reach-reached i r)
+    listed-found i r =
+        reach-found (graphCells g) none itself (map valueLeads (g .roots)) refl (totalWords (g .objects)) whole-fits i
+        (reach-reached i r)
 
     pub lists-whole : D3.Lists g whole
     lists-whole = record {

@@ -58,13 +58,15 @@ module _ (Y : Layout) (s : State) where
   judged-after q qs o n (by-row k f e l) = by-row k (inr (n, f)) e l
   judged-after q qs o n (by-none m p) = by-none (n, m) p
 
-  pub judged-refuse : (b : Bool) (k : Refusal) (P : Type 0) (qs : List Row.Row) (o : Outcome) → notRoom k ≡ true → Decides b P → (b ≡ false → Judged Y s qs o)
+  pub judged-refuse : (b : Bool) (k : Refusal) (P : Type 0) (qs : List Row.Row) (o : Outcome) → notRoom k ≡ true → Decides b P
+      → (b ≡ false → Judged Y s qs o)
       → Judged Y s (Row.row k P ∷ qs) (refuse b k s o)
   unfolding refuse
   judged-refuse true k P qs o e d f = by-row k (inl (d .holds refl, refl)) refl (unchanged (not-room k e) refl)
   judged-refuse false k P qs o e d f = judged-after (Row.row k P) qs o (d .fails refl) (f refl)
 
-  judged-room : (b : Bool) (P : Type 0) (o : Outcome) → Decides b P → Plainly (o .answer) → Judged Y s (Row.row Why.Room P ∷ []) (refuse b Why.Room (collected Y s) o)
+  judged-room : (b : Bool) (P : Type 0) (o : Outcome) → Decides b P → Plainly (o .answer)
+      → Judged Y s (Row.row Why.Room P ∷ []) (refuse b Why.Room (collected Y s) o)
   unfolding refuse
   judged-room true P o d p = by-row Why.Room (inl (d .holds refl, refl)) refl (recollected refl refl)
   judged-room false P o d p = by-none (d .fails refl, tt) p
@@ -73,14 +75,16 @@ module _ (Y : Layout) (s : State) where
   judged-says a t p = by-none tt p
 
   -- SHAPE first
-  judged-shape : (qs : List Row.Row) (o : Outcome) → Judged Y s qs o → Judged Y s (Row.row Why.Shape (Row.BadShape s) ∷ qs) (refuse (badShape s) Why.Shape s o)
+  judged-shape : (qs : List Row.Row) (o : Outcome) → Judged Y s qs o
+      → Judged Y s (Row.row Why.Shape (Row.BadShape s) ∷ qs) (refuse (badShape s) Why.Shape s o)
   judged-shape qs o t = judged-refuse (badShape s) Why.Shape (Row.BadShape s) qs o refl (shape-decides s) (λ e. t)
 
   -- then ROOT: no root named, one, or two
   judged-none : (qs : List Row.Row) (o : Outcome) → Judged Y s qs o → Judged Y s (Row.row Why.Root (Row.NoRoot s []) ∷ qs) o
   judged-none qs o t = judged-after _ qs o (no-roots s) t
 
-  judged-root : (r : ℕ) (qs : List Row.Row) (o : Outcome) → Judged Y s qs o → Judged Y s (Row.row Why.Root (Row.NoRoot s (r ∷ [])) ∷ qs) (refuse (noRoot s r) Why.Root s o)
+  judged-root : (r : ℕ) (qs : List Row.Row) (o : Outcome) → Judged Y s qs o
+      → Judged Y s (Row.row Why.Root (Row.NoRoot s (r ∷ [])) ∷ qs) (refuse (noRoot s r) Why.Root s o)
   judged-root r qs o t = judged-refuse (noRoot s r) Why.Root _ qs o refl (root-decides s r) (λ e. t)
 
   judged-roots : (r q : ℕ) (qs : List Row.Row) (o : Outcome) → Judged Y s qs o
@@ -88,7 +92,8 @@ module _ (Y : Layout) (s : State) where
   judged-roots r q qs o t = judged-refuse (noRoot s r || noRoot s q) Why.Root _ qs o refl (roots-decide s r q) (λ e. t)
 
   -- OBJECT, KIND, FIELD
-  judged-field : (k : Kind) (r f : ℕ) (o : Outcome) → Plainly (o .answer) → Judged Y s (Row.fieldRows Y k r f s) (onField Y k (rootWord s r) f s o)
+  judged-field : (k : Kind) (r f : ℕ) (o : Outcome) → Plainly (o .answer)
+      → Judged Y s (Row.fieldRows Y k r f s) (onField Y k (rootWord s r) f s o)
   judged-field k r f o p =
       judged-refuse _ Why.Object _ _ _ refl (object-decides Y s r) (λ a.
       let n = not-false (names Y s (rootWord s r)) a in
@@ -110,17 +115,23 @@ module _ (Y : Layout) (s : State) where
       rw (eq-eqb (rootWord s r % 2) 0 (omega arith), f)
 
   pub step-judged : (c : Call) → Judged Y s (Row.rows Y c s) (step Y c s)
-  unfolding step Calls.collect Calls.check Calls.allocate Calls.setInteger Calls.setNull Calls.copy Calls.load Calls.store Calls.rawRead Calls.rawWrite Calls.same Calls.inspect
+  unfolding step Calls.collect Calls.check Calls.allocate Calls.setInteger Calls.setNull Calls.copy Calls.load Calls.store
+      Calls.rawRead Calls.rawWrite Calls.same Calls.inspect
   step-judged Ask.Collect =
-      judged-shape _ _ (judged-none _ _ (judged-refuse _ Why.Damaged _ _ _ refl (unsound-decides Y s) (λ e. judged-says _ _ (plainly (Says.Live (live Y s)) refl))))
-  step-judged Ask.Check = judged-shape _ _ (judged-none _ _ (judged-says _ s (either-plainly (sound Y s) Says.Sound Says.Unsound refl refl)))
+      judged-shape _ _
+      (judged-none _ _
+      (judged-refuse _ Why.Damaged _ _ _ refl (unsound-decides Y s) (λ e.
+      judged-says _ _ (plainly (Says.Live (live Y s)) refl))))
+  step-judged Ask.Check =
+      judged-shape _ _ (judged-none _ _ (judged-says _ s (either-plainly (sound Y s) Says.Sound Says.Unsound refl refl)))
   step-judged (Ask.Allocate k n r) =
       judged-shape _ _ (judged-root r _ _ (judged-refuse _ Why.Count _ _ _ refl (count-decides n) (λ a.
       cond-holds (Judged Y s _) (fits n s) _ _
       (λ b. by-none ((λ c. uncalled n s b (c .0)), ((λ c. uncalled n s b (c .0)), tt)) done-plainly)
       (λ b.
       let c = called n s b in
-      judged-refuse _ Why.Damaged _ _ _ refl (damaged-decides Y n s c) (λ d. judged-room _ _ _ (room-decides n s (collected Y s) c) done-plainly)))))
+      judged-refuse _ Why.Damaged _ _ _ refl (damaged-decides Y n s c) (λ d.
+      judged-room _ _ _ (room-decides n s (collected Y s) c) done-plainly)))))
   step-judged (Ask.SetInteger r v) =
       judged-shape _ _ (judged-root r _ _ (judged-refuse _ Why.Range _ _ _ refl (range-decides v) (λ e. judged-says _ _ done-plainly)))
   step-judged (Ask.SetNull r) = judged-shape _ _ (judged-root r _ _ (judged-says _ _ done-plainly))
@@ -129,7 +140,9 @@ module _ (Y : Layout) (s : State) where
   step-judged (Ask.Store r f q) = judged-shape _ _ (judged-roots r q _ _ (judged-field Traced r f _ done-plainly))
   step-judged (Ask.RawRead r f) = judged-shape _ _ (judged-root r _ _ (judged-field Untraced r f _ (plainly (Says.Number _) refl)))
   step-judged (Ask.RawWrite r f n) = judged-shape _ _ (judged-root r _ _ (judged-field Untraced r f _ done-plainly))
-  step-judged (Ask.Same p q) = judged-shape _ _ (judged-roots p q _ _ (judged-says _ s (either-plainly (eqb (rootWord s p) (rootWord s q)) Says.Yes Says.No refl refl)))
+  step-judged (Ask.Same p q) =
+      judged-shape _ _
+      (judged-roots p q _ _ (judged-says _ s (either-plainly (eqb (rootWord s p) (rootWord s q)) Says.Yes Says.No refl refl)))
   step-judged (Ask.Inspect r) =
       judged-shape _ _ (judged-root r _ _
       (cond-holds (Judged Y s _) (isOdd (rootWord s r)) _ _ (λ a. by-none (odd-no-value r a, tt) (plainly (Says.Integer _) refl)) (λ a.

@@ -48,7 +48,8 @@ module _ (Y : Layout) (s : State) (h : Sound Y s) where
     stored = λ r f from g l.
         word-sound Y s h (index Y (rootWord s r)) f (rootWord s from) (is-header Traced r f g) (g .below) (λ z. h .roots from l);
     written = λ r f x g.
-        word-sound Y s h (index Y (rootWord s r)) f x (is-header Untraced r f g) (g .below) (λ z. never (ap isTraced z) (ap isTraced (g .kind-is)));
+        word-sound Y s h (index Y (rootWord s r)) f x (is-header Untraced r f g) (g .below)
+        (λ z. never (ap isTraced z) (ap isTraced (g .kind-is)));
     placedNow = λ k n r a l e. place-sound Y law s h k n r l (leb-true (n + 1) (spare s) e);
     collectedNow = λ e. new-sound Y s h;
     placedThen = λ k n r e l f. place-sound Y law (collected Y s) (new-sound Y s h) k n r l (leb-true (n + 1) (spare (collected Y s)) f);

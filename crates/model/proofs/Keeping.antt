@@ -72,13 +72,15 @@ module _ (Y : Layout) (s : State) (h : Sound Y s) where
     with-target : otherFirst with ≡ otherFirst s
     with-target = ap (λ x. firstOf x (other (s .«record» .half))) with-room
 
-    both : (tiles Y H′ (free s) (free s - firstWord s) (firstWord s) ≡ true) × (headersFrom Y H′ (free s) (free s - firstWord s) (firstWord s) ≡ headers Y s)
+    both : (tiles Y H′ (free s) (free s - firstWord s) (firstWord s) ≡ true)
+        × (headersFrom Y H′ (free s) (free s - firstWord s) (firstWord s) ≡ headers Y s)
     both = tiles-same Y (s .heap) H′ (free s) (free s - firstWord s) (firstWord s) (h .tiled) kept
 
     pub with-headers : headers Y with ≡ headers Y s
     with-headers = ap (λ b. headersFrom Y H′ (free s) (free s - b) b) with-base ∙ both .1
 
-    pub with-sound : ((i f : ℕ) → In i (headers Y s) → kind Y (s .heap) i ≡ Traced → f < fieldCount Y (s .heap) i → isValue Y (headers Y s) (at H′ (i + 1 + f)) ≡ true)
+    pub with-sound : ((i f : ℕ) → In i (headers Y s) → kind Y (s .heap) i ≡ Traced → f < fieldCount Y (s .heap) i
+        → isValue Y (headers Y s) (at H′ (i + 1 + f)) ≡ true)
         → Sound Y with
     with-sound vals = record {
       shape = record {
@@ -93,7 +95,8 @@ module _ (Y : Layout) (s : State) (h : Sound Y s) where
       idle = λ i l k.
           let l′ : otherFirst s ≤ i = rw with-target at l in
           let k′ : i < otherFirst s + halfWords (s .heap) = rw (with-target, with-room) at k in
-          outside i (⊎-elim inl (λ (x : firstWord s + halfWords (s .heap) ≤ i). inr (omega (arith, h .shape .high))) (halves-apart s i l′ k′)) ∙ h .idle i l′ k′;
+          outside i (⊎-elim inl (λ (x : firstWord s + halfWords (s .heap) ≤ i). inr (omega (arith, h .shape .high)))
+          (halves-apart s i l′ k′)) ∙ h .idle i l′ k′;
       rest = λ i l k.
           let k′ : i < firstWord s + halfWords (s .heap) = rw (with-base, with-room) at k in
           outside i (inr l) ∙ h .rest i l k′;
@@ -106,25 +109,32 @@ module _ (Y : Layout) (s : State) (h : Sound Y s) where
     }
 
   -- a field's place is one object's
-  pub one-object : (i f j g : ℕ) → In i (headers Y s) → f < fieldCount Y (s .heap) i → In j (headers Y s) → g < fieldCount Y (s .heap) j → j + 1 + g ≡ i + 1 + f → j ≡ i
+  pub one-object : (i f j g : ℕ) → In i (headers Y s) → f < fieldCount Y (s .heap) i → In j (headers Y s)
+      → g < fieldCount Y (s .heap) j → j + 1 + g ≡ i + 1 + f → j ≡ i
   one-object i f j g a x b y e =
       ⊎-elim
-      (λ (l : j < i). let p = headers-apart Y (s .heap) (free s) (free s - firstWord s) (firstWord s) j i (h .tiled) b a l in absurd (omega arith))
+      (λ (l : j < i).
+      let p = headers-apart Y (s .heap) (free s) (free s - firstWord s) (firstWord s) j i (h .tiled) b a l in
+      absurd (omega arith))
       (λ (l : i ≤ j).
       ⊎-elim
-      (λ (k : i < j). let p = headers-apart Y (s .heap) (free s) (free s - firstWord s) (firstWord s) i j (h .tiled) a b k in absurd (omega arith))
+      (λ (k : i < j).
+      let p = headers-apart Y (s .heap) (free s) (free s - firstWord s) (firstWord s) i j (h .tiled) a b k in
+      absurd (omega arith))
       (λ (k : j ≤ i). omega arith)
       (decide i j))
       (decide j i)
 
   -- a field is stored
-  pub word-sound : (i f w : ℕ) → In i (headers Y s) → f < fieldCount Y (s .heap) i → (kind Y (s .heap) i ≡ Traced → isValue Y (headers Y s) w ≡ true)
+  pub word-sound : (i f w : ℕ) → In i (headers Y s) → f < fieldCount Y (s .heap) i
+      → (kind Y (s .heap) i ≡ Traced → isValue Y (headers Y s) w ≡ true)
       → Sound Y (withWord s (i + 1 + f) w)
   word-sound i f w m l v =
       with-sound (set (s .heap) (i + 1 + f) w) (length-set (s .heap) (i + 1 + f) w)
       (λ j b. getD-set-other (s .heap) (i + 1 + f) j w 0 (field-no-header i f j m l b))
       (λ j c. getD-set-other (s .heap) (i + 1 + f) j w 0
-      (λ e. let t = tile i m .from in let u = tile i m .within in ⊎-elim (λ (x : j < firstWord s). omega arith) (λ (x : free s ≤ j). omega arith) c))
+      (λ e. let t = tile i m .from in let u = tile i m .within in
+      ⊎-elim (λ (x : j < firstWord s). omega arith) (λ (x : free s ≤ j). omega arith) c))
       (λ j g b k x.
       ⊎-elim
       (λ (e : j + 1 + g ≡ i + 1 + f).
@@ -140,4 +150,5 @@ module _ (Y : Layout) (s : State) (h : Sound Y s) where
       with-headers (set (s .heap) (i + 1 + f) w) (length-set (s .heap) (i + 1 + f) w)
       (λ j b. getD-set-other (s .heap) (i + 1 + f) j w 0 (field-no-header i f j m l b))
       (λ j c. getD-set-other (s .heap) (i + 1 + f) j w 0
-      (λ e. let t = tile i m .from in let u = tile i m .within in ⊎-elim (λ (x : j < firstWord s). omega arith) (λ (x : free s ≤ j). omega arith) c))
+      (λ e. let t = tile i m .from in let u = tile i m .within in
+      ⊎-elim (λ (x : j < firstWord s). omega arith) (λ (x : free s ≤ j). omega arith) c))

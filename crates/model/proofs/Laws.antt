@@ -40,8 +40,10 @@ use Rattle.model.proofs.Tests.{by-test, and-both}
 named-within : (Y : Layout) (s : State) (w : ℕ) → names Y s w ≡ true → index Y w + size Y (s .heap) (index Y w) ≤ free s
 unfolding names
 named-within Y s w e =
-    let before = isAddress w && eqb (w % 4) 0 && leb (firstWord s) (index Y w) && ltb (index Y w) (free s) && Y .isHeader (at (s .heap) (index Y w)) in
-    leb-true (index Y w + size Y (s .heap) (index Y w)) (free s) (and-both before (leb (index Y w + size Y (s .heap) (index Y w)) (free s)) e .1)
+    let before = isAddress w && eqb (w % 4) 0 && leb (firstWord s) (index Y w) && ltb (index Y w) (free s)
+    && Y .isHeader (at (s .heap) (index Y w)) in
+    leb-true (index Y w + size Y (s .heap) (index Y w)) (free s)
+    (and-both before (leb (index Y w + size Y (s .heap) (index Y w)) (free s)) e .1)
 
 object-at : (i j : Index) (n m : ℕ) → Place.Object i n ≡ Place.Object j m → (i ≡ j) × (n ≡ m)
 object-at i j n m e = (cc, cc)
@@ -51,7 +53,8 @@ refused-object k i n e = let z : _≡_ {A = ℕ} 0 1 = cc in omega arith
 
 -- a window that is open is on an object that is named, in a heap of good shape
 window-open : (Y : Layout) (r : ℕ) (s : State) (i : Index) (n : ℕ) → window Y r s ≡ Place.Object i n
-    → (badShape s ≡ false) × (names Y s (rootWord s r) ≡ true) × (record { 0 = index Y (rootWord s r) } ≡ i) × (fieldCount Y (s .heap) (index Y (rootWord s r)) ≡ n)
+    → (badShape s ≡ false) × (names Y s (rootWord s r) ≡ true) × (record { 0 = index Y (rootWord s r) } ≡ i)
+    × (fieldCount Y (s .heap) (index Y (rootWord s r)) ≡ n)
 unfolding window
 window-open Y r s i n e =
     ⊎-elim
@@ -78,7 +81,9 @@ shows Y r s i n e =
     let w = named-within Y s (rootWord s r) (o .1) in
     let b = first-in s h in
     let long : i .0 + 1 + n ≤ length (s .heap) = omega (arith, o .3, h .high) in
-    let len : length (take n (drop (i .0 + 1) (s .heap))) ≡ n = let x = length-take n (drop (i .0 + 1) (s .heap)) in let y = length-drop (i .0 + 1) (s .heap) in omega arith in
+    let x = length-take n (drop (i .0 + 1) (s .heap)) in
+    let y = length-drop (i .0 + 1) (s .heap) in
+    let len : length (take n (drop (i .0 + 1) (s .heap))) ≡ n = omega arith in
     record {
       object = sym at-i;
       fields = sym (o .3) ∙ ap (fieldCount Y (s .heap)) at-i;
@@ -106,7 +111,14 @@ untag-range w l =
     (by-test (ltb w 2147483648))
 
 pub integer-law : Law.IntegerLaw
-integer-law = record { odd = tag-is-odd; fits = tag-word; modulo = tag-modulo; back = untag-tag; held = λ w l o. (untag-range w l, tag-untag w l o) }
+integer-law =
+    record {
+      odd = tag-is-odd;
+      fits = tag-word;
+      modulo = tag-modulo;
+      back = untag-tag;
+      held = λ w l o. (untag-range w l, tag-untag w l o);
+    }
 
 header-fits : (k : Kind) (n : ℕ) → n ≤ maxFields → tuple .header k n < 4294967296
 unfolding tuple

@@ -43,16 +43,19 @@ pub record Kept (Y : Layout) (s : State) (P : State → Type 0) : Type 0 where
   pub null : (r : ℕ) → P (withRoot s r 0)
   pub copied : (from to : ℕ) → from < length (s .roots) → P (withRoot s to (rootWord s from))
   pub loaded : (r f to : ℕ) → HasField Y s Traced r f → P (withRoot s to (at (s .heap) (fieldIndex (index Y (rootWord s r)) f)))
-  pub stored : (r f from : ℕ) → HasField Y s Traced r f → from < length (s .roots) → P (withWord s (fieldIndex (index Y (rootWord s r)) f) (rootWord s from))
+  pub stored : (r f from : ℕ) → HasField Y s Traced r f → from < length (s .roots)
+      → P (withWord s (fieldIndex (index Y (rootWord s r)) f) (rootWord s from))
   pub written : (r f x : ℕ) → HasField Y s Untraced r f → P (withWord s (fieldIndex (index Y (rootWord s r)) f) x)
   pub placedNow : (k : Kind) (n r : ℕ) → badShape s ≡ false → n ≤ maxFields → fits n s ≡ true → P (placed Y k n r s)
   pub collectedNow : sound Y s ≡ true → P (collected Y s)
-  pub placedThen : (k : Kind) (n r : ℕ) → sound Y s ≡ true → n ≤ maxFields → fits n (collected Y s) ≡ true → P (placed Y k n r (collected Y s))
+  pub placedThen : (k : Kind) (n r : ℕ) → sound Y s ≡ true → n ≤ maxFields → fits n (collected Y s) ≡ true
+      → P (placed Y k n r (collected Y s))
 
 data Leaves (P : State → Type 0) : Outcome → Type 0 where
   leaves : {o : Outcome} → P (o .left) → Leaves P o
 
-refuse-leaves : (P : State → Type 0) (b : Bool) (k : Refusal) (s : State) (o : Outcome) → P s → (b ≡ false → Leaves P o) → Leaves P (refuse b k s o)
+refuse-leaves : (P : State → Type 0) (b : Bool) (k : Refusal) (s : State) (o : Outcome) → P s → (b ≡ false → Leaves P o)
+    → Leaves P (refuse b k s o)
 unfolding refuse
 refuse-leaves P b k s o p f = cond-holds (Leaves P) b _ o (λ e. leaves p) f
 
@@ -64,7 +67,8 @@ module _ (Y : Layout) (s : State) (P : State → Type 0) (h : Kept Y s P) where
   after : (b : Bool) (k : Refusal) (o : Outcome) → (b ≡ false → Leaves P o) → Leaves P (refuse b k s o)
   after b k o f = refuse-leaves P b k s o (h .itself) f
 
-  on-field : (k : Kind) (r f : ℕ) (o : Outcome) → r < length (s .roots) → (HasField Y s k r f → Leaves P o) → Leaves P (onField Y k (rootWord s r) f s o)
+  on-field : (k : Kind) (r f : ℕ) (o : Outcome) → r < length (s .roots) → (HasField Y s k r f → Leaves P o)
+      → Leaves P (onField Y k (rootWord s r) f s o)
   on-field k r f o l g =
       let i = index Y (rootWord s r) in
       after (not (names Y s (rootWord s r))) Why.Object _ (λ a.
@@ -78,7 +82,8 @@ module _ (Y : Layout) (s : State) (P : State → Type 0) (h : Kept Y s P) where
       }))))
 
   step-leaves : (c : Call) → Leaves P (step Y c s)
-  unfolding step Calls.collect Calls.check Calls.allocate Calls.setInteger Calls.setNull Calls.copy Calls.load Calls.store Calls.rawRead Calls.rawWrite Calls.same Calls.inspect
+  unfolding step Calls.collect Calls.check Calls.allocate Calls.setInteger Calls.setNull Calls.copy Calls.load Calls.store
+      Calls.rawRead Calls.rawWrite Calls.same Calls.inspect
   step-leaves Ask.Collect = after _ Why.Shape _ (λ a. after _ Why.Damaged _ (λ b. leaves (h .collectedNow (not-false (sound Y s) b))))
   step-leaves Ask.Check = after _ Why.Shape _ (λ a. leaves (h .itself))
   step-leaves (Ask.Allocate k n r) =
@@ -94,7 +99,8 @@ module _ (Y : Layout) (s : State) (P : State → Type 0) (h : Kept Y s P) where
       after _ Why.Shape _ (λ a. after _ Why.Root _ (λ b. after _ Why.Range _ (λ c. leaves (h .integer r v (not-false (inRange v) c)))))
   step-leaves (Ask.SetNull r) = after _ Why.Shape _ (λ a. after _ Why.Root _ (λ b. leaves (h .null r)))
   step-leaves (Ask.Copy from to) =
-      after _ Why.Shape _ (λ a. after _ Why.Root _ (λ b. leaves (h .copied from to (legal-root from (or-none (noRoot s from) (noRoot s to) b .0)))))
+      after _ Why.Shape _ (λ a.
+      after _ Why.Root _ (λ b. leaves (h .copied from to (legal-root from (or-none (noRoot s from) (noRoot s to) b .0)))))
   step-leaves (Ask.Load r f to) =
       after _ Why.Shape _ (λ a. after _ Why.Root _ (λ b.
       on-field Traced r f _ (legal-root r (or-none (noRoot s r) (noRoot s to) b .0)) (λ g. leaves (h .loaded r f to g))))

@@ -57,9 +57,11 @@ module _ {C : Type 0} (cells : ℕ → List C) (blank : C) (leads : C → Option
       let c = getD P p blank in
       let a : packed cells o ≡ packed cells (F p) ++ packed cells (t .0) = ap (packed cells) (t .1) ∙ packed-append cells (F p) (t .0) in
       let b : take (suc p) (packed cells o) ≡ take p (packed cells (F p)) ++ (getD (packed cells (F p)) p blank ∷ []) =
-      ap (take (suc p)) a ∙ take-append-le (suc p) (packed cells (F p)) (packed cells (t .0)) (omega arith) ∙ take-suc (packed cells (F p)) p blank l in
+      ap (take (suc p)) a ∙ take-append-le (suc p) (packed cells (F p)) (packed cells (t .0)) (omega arith)
+      ∙ take-suc (packed cells (F p)) p blank l in
       let d : along (suc p) o ≡ along p (F p) ++ (leads (getD (packed cells (F p)) p blank) ∷ []) =
-      ap (λ z. R ++ map leads z) b ∙ ap (λ z. R ++ z) (map-append leads (take p (packed cells (F p))) (getD (packed cells (F p)) p blank ∷ []))
+      ap (λ z. R ++ map leads z) b
+      ∙ ap (λ z. R ++ z) (map-append leads (take p (packed cells (F p))) (getD (packed cells (F p)) p blank ∷ []))
       ∙ sym (append-assoc R (map leads (take p (packed cells (F p)))) (leads (getD (packed cells (F p)) p blank) ∷ [])) in
       ap (visits []) d ∙ visits-append [] (along p (F p)) (leads (getD (packed cells (F p)) p blank) ∷ [])
       ∙ ap (λ z. visit z (leads (getD (packed cells (F p)) p blank))) (sym ih)
@@ -69,11 +71,14 @@ module _ {C : Type 0} (cells : ℕ → List C) (blank : C) (leads : C → Option
   met-at zero = ap (visits []) (sym (append-nil R))
   met-at (suc p) =
       ⊎-elim
-      (λ (b : ltb p (length (packed cells (F p))) ≡ true). sym (met-step p (F (suc p)) (found-step cells blank leads R p) (ltb-true _ _ b) (met-at p)))
+      (λ (b : ltb p (length (packed cells (F p))) ≡ true).
+      sym (met-step p (F (suc p)) (found-step cells blank leads R p) (ltb-true _ _ b) (met-at p)))
       (λ (b : ltb p (length (packed cells (F p))) ≡ false).
       let e : F (suc p) ≡ F p = still p (ltb-false _ _ b) in
       let g : take (suc p) (packed cells (F (suc p))) ≡ take p (packed cells (F p)) =
-      ap (λ z. take (suc p) (packed cells z)) e ∙ take-all (suc p) (packed cells (F p)) (let z : length (packed cells (F p)) ≤ p = ltb-false _ _ b in omega arith) ∙ sym (take-all p (packed cells (F p)) (ltb-false _ _ b)) in
+      ap (λ z. take (suc p) (packed cells z)) e ∙ take-all (suc p) (packed cells (F p))
+      (let z : length (packed cells (F p)) ≤ p = ltb-false _ _ b in omega arith)
+      ∙ sym (take-all p (packed cells (F p)) (ltb-false _ _ b)) in
       e ∙ met-at p ∙ ap (λ z. visits [] (R ++ map leads z)) (sym g))
       (by-test (ltb p (length (packed cells (F p)))))
 

@@ -78,7 +78,8 @@ in-last j o = in-append-right j o (j ∷ []) (in-self j [])
 pub in-map : (f : ℕ → ℕ) (x : ℕ) (xs : List ℕ) → In x xs → In (f x) (map f xs)
 in-map f x [] m = in-nil x m
 in-map f x (y ∷ xs) m =
-    ⊎-elim (λ (e : x ≡ y). in-head (f x) (f y) (map f xs) (ap f e)) (λ (n : In x xs). in-tail (f x) (f y) (map f xs) (in-map f x xs n)) (in-cons x y xs m)
+    ⊎-elim (λ (e : x ≡ y). in-head (f x) (f y) (map f xs) (ap f e))
+    (λ (n : In x xs). in-tail (f x) (f y) (map f xs) (in-map f x xs n)) (in-cons x y xs m)
 
 pub map-in-out : (f : ℕ → ℕ) (y : ℕ) (xs : List ℕ) → In y (map f xs) → (x : ℕ) × In x xs × (f x ≡ y)
 map-in-out f y [] m = in-nil y m
@@ -103,7 +104,8 @@ in-take x (suc k) (y ∷ xs) m =
 pub all-in : (p : ℕ → Bool) (xs : List ℕ) (i : ℕ) → all p xs ≡ true → In i xs → p i ≡ true
 all-in p [] i h m = in-nil i m
 all-in p (x ∷ xs) i h m =
-    ⊎-elim (λ (e : i ≡ x). rw e (and-both (p x) (all p xs) h .0)) (λ (n : In i xs). all-in p xs i (and-both (p x) (all p xs) h .1) n) (in-cons i x xs m)
+    ⊎-elim (λ (e : i ≡ x). rw e (and-both (p x) (all p xs) h .0))
+    (λ (n : In i xs). all-in p xs i (and-both (p x) (all p xs) h .1) n) (in-cons i x xs m)
 
 pub in-all : (p : ℕ → Bool) (xs : List ℕ) → ((i : ℕ) → In i xs → p i ≡ true) → all p xs ≡ true
 in-all p [] f = refl

@@ -118,13 +118,16 @@ module _ (Y : Layout) (s : State) (h : Sound Y s) where
   pub header-outside : (i d : ℕ) → In i (headers Y s) → d < size Y H i → (i + d < otherFirst s) ⊎ (otherFirst s + S ≤ i + d)
   header-outside i d m l =
       let a = header-half i d m l in
-      ⊎-elim (λ (e : firstWord s + S ≤ otherFirst s). inl (omega (arith, a .1))) (λ (e : otherFirst s + S ≤ firstWord s). inr (omega (arith, a .0))) (halves-ordered s)
+      ⊎-elim (λ (e : firstWord s + S ≤ otherFirst s). inl (omega (arith, a .1)))
+      (λ (e : otherFirst s + S ≤ firstWord s). inr (omega (arith, a .0))) (halves-ordered s)
 
   -- and no other object's header
   pub header-alone : (i d : ℕ) → In i (headers Y s) → In (i + d) (headers Y s) → d < size Y H i → d ≡ 0
   header-alone i d m n l =
       ⊎-elim (λ (e : d ≡ 0). e)
-      (λ (e : d ≡ 0 → ⊥). let z = headers-apart Y H (free s) (free s - firstWord s) (firstWord s) i (i + d) (h .tiled) m n (omega arith) in absurd (omega arith))
+      (λ (e : d ≡ 0 → ⊥).
+      let z = headers-apart Y H (free s) (free s - firstWord s) (firstWord s) i (i + d) (h .tiled) m n (omega arith) in
+      absurd (omega arith))
       (same? d 0)
 
   module _ (o : List ℕ) (heads : (i : ℕ) → In i o → In i (headers Y s)) where
@@ -136,7 +139,8 @@ module _ (Y : Layout) (s : State) (h : Sound Y s) where
         omega (arith, h .shape .high)
 
     -- what a word of theirs leads to is an object
-    pub cell-header : (j i : ℕ) → j < length (packed (cells Y H) o) → cellLeads Y (getD (packed (cells Y H) o) j (still 0)) ≡ some i → In i (headers Y s)
+    pub cell-header : (j i : ℕ) → j < length (packed (cells Y H) o)
+        → cellLeads Y (getD (packed (cells Y H) o) j (still 0)) ≡ some i → In i (headers Y s)
     cell-header j i l e =
         let g = find (cells Y H) (still 0) o j l in
         let m = heads (g .0) (g .2) in

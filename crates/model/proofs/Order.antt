@@ -51,7 +51,8 @@ module _ (Y : Layout) (s : State) (h : Sound Y s) where
       (u, p .0, p .1))
       (λ (b : ltb k (length (s .roots)) ≡ false).
       let m = length-map (s .roots) (wordLeads Y) in
-      absurd (no-some j (sym (List·getD-eq-default (map (wordLeads Y) (s .roots)) none (omega (arith, ltb-false k (length (s .roots)) b))) ∙ e)))
+      absurd (no-some j
+      (sym (List·getD-eq-default (map (wordLeads Y) (s .roots)) none (omega (arith, ltb-false k (length (s .roots)) b))) ∙ e)))
       (by-test (ltb k (length (s .roots))))
 
   -- everything reachable is a header of the tiling
@@ -63,7 +64,9 @@ module _ (Y : Layout) (s : State) (h : Sound Y s) where
       let m = reached-header i r in
       let t = header-tile i m in
       let c = cell-leads Y (s .heap) i k j (omega (arith, free-in)) e in
-      rw (← c .to) (value-header Y (headers Y s) (at (s .heap) (i + 1 + c .field)) (h .values i (c .field) m (c .traced) (c .under)) (c .pointer))
+      rw (← c .to)
+      (value-header Y (headers Y s) (at (s .heap) (i + 1 + c .field)) (h .values i (c .field) m (c .traced) (c .under))
+      (c .pointer))
 
   pub orderAt-distinct : (p : ℕ) → Distinct (orderAt Y s p)
   unfolding orderAt
@@ -134,9 +137,11 @@ module _ (Y : Layout) (s : State) (h : Sound Y s) where
       let t = header-tile i (reached-header i (nearby-reached d′ i m)) in
       near-cell (suc f) d′ m (field-leads Y (s .heap) i f (omega (arith, free-in)) k l p)
 
-  pub order-breadth : (k l d : ℕ) → k ≤ l → l < length (order Y s) → D.Near Y s d (getD (order Y s) l 0) → D.Near Y s d (getD (order Y s) k 0)
+  pub order-breadth : (k l d : ℕ) → k ≤ l → l < length (order Y s) → D.Near Y s d (getD (order Y s) l 0)
+      → D.Near Y s d (getD (order Y s) k 0)
   unfolding orderAt
   order-breadth k l d a b n =
       nearby-near d (getD (order Y s) k 0)
-      (breadth (cells Y (s .heap)) (still 0) (cellLeads Y) (map (wordLeads Y) (s .roots)) refl (halfWords (s .heap)) order-fits d k l (getD (order Y s) l 0) a b refl
+      (breadth (cells Y (s .heap)) (still 0) (cellLeads Y) (map (wordLeads Y) (s .roots)) refl
+      (halfWords (s .heap)) order-fits d k l (getD (order Y s) l 0) a b refl
       (near-nearby d (getD (order Y s) l 0) n))

@@ -69,7 +69,8 @@ module _ {C : Type 0} (cells : ℕ → List C) where
       rw (ne-eqb i j (p .0), wordsBefore-last o t i (p .1), length-append)
 
   -- two places are one only of one node, where each node has a cell
-  pub wordsBefore-apart : ((i : ℕ) → 0 < length (cells i)) → (o : List ℕ) (i j : ℕ) → In i o → In j o → wordsBefore cells o i ≡ wordsBefore cells o j → i ≡ j
+  pub wordsBefore-apart : ((i : ℕ) → 0 < length (cells i)) → (o : List ℕ) (i j : ℕ) → In i o → In j o
+      → wordsBefore cells o i ≡ wordsBefore cells o j → i ≡ j
   unfolding wordsBefore
   wordsBefore-apart full [] i j h g q = in-nil i h
   wordsBefore-apart full (n ∷ o) i j h g q =
@@ -115,7 +116,8 @@ module _ {C : Type 0} (cells : ℕ → List C) where
       (λ (e : ltb p (length (cells j)) ≡ false).
       let h : length (cells j) ≤ p = ltb-false _ _ e in
       let r = p - length (cells j) in
-      let a : length (cells j) + length (packed cells o) ≡ length (cells j ++ packed cells o) = sym (length-append (cells j) (packed cells o)) in
+      let a : length (cells j) + length (packed cells o) ≡ length (cells j ++ packed cells o) =
+      sym (length-append (cells j) (packed cells o)) in
       let f = find d o r (omega arith) in
       let s : length (cells j) + r ≡ p = omega arith in (
         f .0,
@@ -139,7 +141,8 @@ in-remove i j (x ∷ xs) h n =
     (λ (e : eqb i x ≡ true).
     rw e (in-other j x xs h (ne-eqb j x (λ q. n (q ∙ sym (eqb-true i x e))))))
     (λ (e : eqb i x ≡ false).
-    rw e (⊎-elim (λ (q : j ≡ x). in-head j x (remove i xs) q) (λ (m : In j xs). in-tail j x (remove i xs) (in-remove i j xs m n)) (in-cons j x xs h)))
+    rw e (⊎-elim (λ (q : j ≡ x). in-head j x (remove i xs) q)
+    (λ (m : In j xs). in-tail j x (remove i xs) (in-remove i j xs m n)) (in-cons j x xs h)))
     (by-test (eqb i x))
 
 module _ {C : Type 0} (cells : ℕ → List C) where

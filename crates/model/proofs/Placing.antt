@@ -47,7 +47,8 @@ module _ (Y : Layout) where
   unfolding isValue
   zero-value hs = refl
 
-module _ (Y : Layout) (law : Lawful Y) (s : State) (h : Sound Y s) (k : Kind) (n r : ℕ) (small : n ≤ maxFields) (fit : n + 1 ≤ spare s) where
+module _ (Y : Layout) (law : Lawful Y) (s : State) (h : Sound Y s) (k : Kind) (n r : ℕ) (small : n ≤ maxFields)
+    (fit : n + 1 ≤ spare s) where
   abbrev s⁺ : State
   s⁺ = placed Y k n r s
 
@@ -80,7 +81,9 @@ module _ (Y : Layout) (law : Lawful Y) (s : State) (h : Sound Y s) (k : Kind) (n
 
   pub place-header : at (s⁺ .heap) (free s) ≡ Y .header k n
   unfolding placed
-  place-header = ap (λ x. at (sets (s .heap) (free s) vs) x) (sym (add-zero (free s))) ∙ sets-in (s .heap) (free s) vs 0 in-heap (omega (arith, vs-length))
+  place-header =
+      ap (λ x. at (sets (s .heap) (free s) vs) x) (sym (add-zero (free s)))
+      ∙ sets-in (s .heap) (free s) vs 0 in-heap (omega (arith, vs-length))
 
   place-zero : (f : ℕ) → f < n → at (sets (s .heap) (free s) vs) (free s + suc f) ≡ 0
   place-zero f l = sets-in (s .heap) (free s) vs (suc f) in-heap (omega (arith, vs-length)) ∙ getD-replicate n f 0 0 l
@@ -107,7 +110,8 @@ module _ (Y : Layout) (law : Lawful Y) (s : State) (h : Sound Y s) (k : Kind) (n
   place-both : (tiles Y (s⁺ .heap) (free s + (n + 1)) (free s + (n + 1) - firstWord s) (firstWord s) ≡ true)
       × (headersFrom Y (s⁺ .heap) (free s + (n + 1)) (free s + (n + 1) - firstWord s) (firstWord s) ≡ headers Y s ++ (free s ∷ []))
   place-both =
-      tiles-snoc Y (s .heap) (s⁺ .heap) (free s) (free s + (n + 1)) (free s - firstWord s) (free s + (n + 1) - firstWord s) (firstWord s) (h .tiled)
+      tiles-snoc Y (s .heap) (s⁺ .heap) (free s) (free s + (n + 1)) (free s - firstWord s) (free s + (n + 1) - firstWord s)
+      (firstWord s) (h .tiled)
       (λ j m. place-other j (λ e. let t = tile Y s h j m .within in omega arith))
       (ap (λ x. Y .isHeader x) place-header ∙ law .clear k n small)
       (ap (λ x. free s + x) (sym place-size))
@@ -132,7 +136,8 @@ module _ (Y : Layout) (law : Lawful Y) (s : State) (h : Sound Y s) (k : Kind) (n
       rw (e, getD-set-same (s .roots) r (address Y (free s)) 0 (omega arith))
       (address-value Y (headers Y s ++ (free s ∷ [])) (free s) (in-last (free s) (headers Y s))))
       (λ (d : q ≡ r → ⊥).
-      rw (getD-set-other (s .roots) r q (address Y (free s)) 0 d) (value-more Y (headers Y s) (free s ∷ []) (at (s .roots) q) (h .roots q l)))
+      rw (getD-set-other (s .roots) r q (address Y (free s)) 0 d)
+      (value-more Y (headers Y s) (free s ∷ []) (at (s .roots) q) (h .roots q l)))
       (same? q r)
 
   place-value : (i f : ℕ) → In i (headers Y s ++ (free s ∷ [])) → kind Y (s⁺ .heap) i ≡ Traced → f < fieldCount Y (s⁺ .heap) i
@@ -147,8 +152,11 @@ module _ (Y : Layout) (law : Lawful Y) (s : State) (h : Sound Y s) (k : Kind) (n
       (value-more Y (headers Y s) (free s ∷ []) (at (s .heap) (i + 1 + f))
       (h .values i f a (sym (ap (λ x. Y .kindOf x) e) ∙ q) (omega arith))))
       (λ (a : i ≡ free s).
-      let z : f < n = let c = place-size in let d : fieldCount Y (s⁺ .heap) i ≡ fieldCount Y (s⁺ .heap) (free s) = ap (λ x. fieldCount Y (s⁺ .heap) x) a in omega arith in
-      rw (place-other (i + 1 + f) (λ y. omega arith), h .rest (i + 1 + f) (omega arith) (omega (arith, fits))) (zero-value Y (headers Y s ++ (free s ∷ []))))
+      let c = place-size in
+      let d : fieldCount Y (s⁺ .heap) i ≡ fieldCount Y (s⁺ .heap) (free s) = ap (λ x. fieldCount Y (s⁺ .heap) x) a in
+      let z : f < n = omega arith in
+      rw (place-other (i + 1 + f) (λ y. omega arith), h .rest (i + 1 + f) (omega arith) (omega (arith, fits)))
+      (zero-value Y (headers Y s ++ (free s ∷ []))))
       (in-snoc i (free s) (headers Y s) m)
 
   pub place-sound : Sound Y s⁺
@@ -165,7 +173,9 @@ module _ (Y : Layout) (law : Lawful Y) (s : State) (h : Sound Y s) (k : Kind) (n
     idle = λ i l m.
         let l′ : otherFirst s ≤ i = rw place-other-first at l in
         let m′ : i < otherFirst s + halfWords (s .heap) = rw (place-other-first, place-room) at m in
-        place-other i (λ e. ⊎-elim (λ (x : i < firstWord s). omega (arith, h .shape .low)) (λ (x : firstWord s + halfWords (s .heap) ≤ i). omega (arith, fits)) (halves-apart s i l′ m′)) ∙ h .idle i l′ m′;
+        place-other i
+        (λ e. ⊎-elim (λ (x : i < firstWord s). omega (arith, h .shape .low))
+        (λ (x : firstWord s + halfWords (s .heap) ≤ i). omega (arith, fits)) (halves-apart s i l′ m′)) ∙ h .idle i l′ m′;
     rest = λ i l m.
         let m′ : i < firstWord s + halfWords (s .heap) = rw (place-first, place-room) at m in
         let l′ : free s + (n + 1) ≤ i = rw place-free at l in

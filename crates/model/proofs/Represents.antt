@@ -51,7 +51,8 @@ module _ (Y : Layout) where
   -- an object and the words from its header's index on
   abbrev pub Holds : List ℕ → (ℕ → ℕ) → List ℕ → Object → ℕ → Type 0
   Holds ids pl H (traced vs) i =
-      (kind Y H i ≡ Traced) × (fieldCount Y H i ≡ length vs) × ((f : ℕ) → f < length vs → Rep ids pl (getD vs f (plain null)) (at H (i + 1 + f)))
+      (kind Y H i ≡ Traced) × (fieldCount Y H i ≡ length vs)
+      × ((f : ℕ) → f < length vs → Rep ids pl (getD vs f (plain null)) (at H (i + 1 + f)))
   Holds ids pl H (untraced ws) i =
       (kind Y H i ≡ Untraced) × (fieldCount Y H i ≡ length ws) × ((f : ℕ) → f < length ws → at H (i + 1 + f) ≡ getD ws f 0)
 
@@ -80,7 +81,8 @@ module _ (Y : Layout) where
   refuse-agrees false false k s g o q m e f = f refl
 
   -- a heap that stands for a graph has its shape
-  pub shape-passes : (s : State) (g : Graph) (o : Outcome) (q : Outcomeᵍ) → Represents s g → Agrees o q → Agrees (refuse (badShape s) Why.Shape s o) q
+  pub shape-passes : (s : State) (g : Graph) (o : Outcome) (q : Outcomeᵍ) → Represents s g → Agrees o q
+      → Agrees (refuse (badShape s) Why.Shape s o) q
   unfolding refuse
   shape-passes s g o q m a = rw (unshaped s (m .ok .shape)) a
 
@@ -88,7 +90,8 @@ module _ (Y : Layout) where
   same-roots s g r m = ap (λ x. leb x r) (m .count)
 
   -- a value's word is a value of the heap
-  pub rep-value : (s : State) (g : Graph) (m : Represents s g) (v : Value) (w : ℕ) → Rep (m .ids) (m .pl) v w → isValue Y (headers Y s) w ≡ true
+  pub rep-value : (s : State) (g : Graph) (m : Represents s g) (v : Value) (w : ℕ) → Rep (m .ids) (m .pl) v w
+      → isValue Y (headers Y s) w ≡ true
   rep-value s g m (plain p) w e = rw (e .1) (plain-value Y (headers Y s) (plainWord p) (plain-no-address p (e .0)))
   rep-value s g m (object x) w e = rw (e .1) (address-value Y (headers Y s) (m .pl x) (m .head x (e .0)))
 

@@ -67,7 +67,8 @@ module _ (Y : Layout) where
       let ih = tiles-snoc H H′ e e′ n n′ (i + size Y H i) (a .1)
       (λ j g. f j (rw m (in-tail j i (headersFrom Y H e n (i + size Y H i)) g))) k q (omega arith) in (
         tiles-more Y H′ e′ n′ i v (ap (λ x. Y .isHeader x) w ∙ a .0) (rw z (ih .0)),
-        headers-more Y H′ e′ n′ i (lt-ltb i e′ v) ∙ ap (λ x. i ∷ headersFrom Y H′ e′ n′ (i + x)) z ∙ ap (λ x. i ∷ x) (ih .1) ∙ ap (λ x. x ++ (e ∷ [])) (sym m),
+        headers-more Y H′ e′ n′ i (lt-ltb i e′ v) ∙ ap (λ x. i ∷ headersFrom Y H′ e′ n′ (i + x)) z ∙ ap (λ x. i ∷ x) (ih .1)
+            ∙ ap (λ x. x ++ (e ∷ [])) (sym m),
       ))
       (λ (b : ltb i e ≡ false).
       let z : i ≡ e = let c = tiles-le Y H e (suc n) i t in let d : e ≤ i = ltb-false i e b in omega arith in

@@ -65,7 +65,14 @@ sixteen-bits-breaks-1 words v d =
     let s = Worked.state A 1 words [] in
     let half : halfWords words ≡ 65536 = omega (arith, v .length-is) in
     let h : Shaped (Worked.state A 1 words []) =
-    record { odd = omega (arith, v .length-is); pos = omega arith; small = omega arith; few = omega arith; low = omega arith; high = omega arith } in
+    record {
+      odd = omega (arith, v .length-is);
+      pos = omega arith;
+      small = omega arith;
+      few = omega arith;
+      low = omega arith;
+      high = omega arith;
+    } in
     check-refused (Worked.state A 1 words []) (unshaped (Worked.state A 1 words []) h)
     (d .session Ask.Check (Worked.state A 1 words []) .exactly Why.Shape .0 (rw half))
 
@@ -118,7 +125,11 @@ depth-first-breaks-2 d = let z : _≡_ {A = ℕ} 15 16 = ap (λ l. getD l 3 0) (
 
 -- its fresh keeps the words
 abbrev pub keepsWords : Machine
-keepsWords = record { fresh = λ s. says Says.Done (lent (s .heap) (s .roots) (record { half = A; free = record { 0 = 1 } })); step = step tuple }
+keepsWords =
+    record {
+      fresh = λ s. says Says.Done (lent (s .heap) (s .roots) (record { half = A; free = record { 0 = 1 } }));
+      step = step tuple;
+    }
 
 pub keeps-words-breaks-3 : D3.Demand3 tuple keepsWords → ⊥
 unfolding answers step Calls.collect refuse sound badShapeOf
@@ -136,7 +147,9 @@ done-null e = let z : _≡_ {A = ℕ} 0 1 = cc in omega arith
 pub constant-breaks-3 : D3.Demand3 tuple constant → ⊥
 unfolding answers answersᵍ stepᵍ refuseᵍ inspected
 constant-breaks-3 d =
-    done-null (ap (λ l. getD l 0 Says.Done) (d .sameAnswers (0 ∷ 0 ∷ 0 ∷ []) (0 ∷ 0 ∷ 0 ∷ []) 1 1 1 1 start start (Ask.Inspect 0 ∷ []) ok ok (omega arith) (omega arith) unrefused .1))
+    done-null (ap (λ l. getD l 0 Says.Done)
+    (d .sameAnswers (0 ∷ 0 ∷ 0 ∷ []) (0 ∷ 0 ∷ 0 ∷ []) 1 1 1 1 start start (Ask.Inspect 0 ∷ []) ok ok (omega arith)
+    (omega arith) unrefused .1))
   where
     start : Record
     start = record { half = A; free = record { 0 = 1 } }

@@ -80,7 +80,8 @@ module _ (Y : Layout) (law : Lawful Y) where
   step-goes (Ask.Inspect r) s g m = inr (inspect-agrees Y r s g m)
 
   -- a call that is not answered "no room" agrees with the graph
-  pub step-agrees : (c : Call) (s : State) (g : Graph) → Represents Y s g → (step Y c s .answer ≡ D3.noRoom → ⊥) → Agrees Y (step Y c s) (stepᵍ c g)
+  pub step-agrees : (c : Call) (s : State) (g : Graph) → Represents Y s g → (step Y c s .answer ≡ D3.noRoom → ⊥)
+      → Agrees Y (step Y c s) (stepᵍ c g)
   step-agrees c s g m f = ⊎-elim (λ (u : Full Y c s g (step Y c s)). absurd (f (u .answers))) (λ a. a) (step-goes c s g m)
 
   -- "no room" in the larger of two heaps for one graph is "no room" in the smaller
@@ -89,7 +90,8 @@ module _ (Y : Layout) (law : Lawful Y) where
   room-smaller c s s⁺ g m m⁺ l e =
       ⊎-elim
       (λ (u : Full Y c s⁺ g (step Y c s⁺)).
-      let a = allocate-room Y (u .kind) (u .fields) (u .to) s⁺ (m⁺ .ok) (u .named) (u .small) .0 (ap (λ z. step Y z s⁺ .answer) (sym (u .is)) ∙ e) in
+      let a = allocate-room Y (u .kind) (u .fields) (u .to) s⁺ (m⁺ .ok) (u .named) (u .small) .0
+      (ap (λ z. step Y z s⁺ .answer) (sym (u .is)) ∙ e) in
       ap (λ z. step Y z s .answer) (u .is)
       ∙ allocate-room Y (u .kind) (u .fields) (u .to) s (m .ok) (omega (arith, u .named, m .count, m⁺ .count)) (u .small) .1
       (omega (arith, live-same Y s g m, live-same Y s⁺ g m⁺)))
@@ -100,9 +102,11 @@ module _ (Y : Layout) (law : Lawful Y) where
   step-half c s = ap (λ x. (x - 1) / 2) (step-lengths Y s c .0)
 
   -- k calls, none of which the smaller heap answers "no room"
-  pub runs : (cs : List Call) (k : ℕ) (s s⁺ : State) (g : Graph) → Represents Y s g → Represents Y s⁺ g → halfWords (s .heap) ≤ halfWords (s⁺ .heap)
+  pub runs : (cs : List Call) (k : ℕ) (s s⁺ : State) (g : Graph) → Represents Y s g → Represents Y s⁺ g
+      → halfWords (s .heap) ≤ halfWords (s⁺ .heap)
       → (List·Memᴰ D3.noRoom (take k (answers (machine Y) cs s)) → ⊥)
-      → (take k (answers (machine Y) cs s) ≡ take k (answers (machine Y) cs s⁺)) × (take k (answers (machine Y) cs s) ≡ take k (answersᵍ cs g))
+      → (take k (answers (machine Y) cs s) ≡ take k (answers (machine Y) cs s⁺))
+      × (take k (answers (machine Y) cs s) ≡ take k (answersᵍ cs g))
   unfolding answers answersᵍ
   runs [] k s s⁺ g m m⁺ l f = (refl, refl)
   runs (c ∷ cs) zero s s⁺ g m m⁺ l f = (refl, refl)
@@ -115,7 +119,8 @@ module _ (Y : Layout) (law : Lawful Y) where
 
   -- after any list of calls the heap stands for the graph of those that were carried out
   pub after-represents : (cs : List Call) (s : State) (g : Graph) → Represents Y s g
-      → Represents Y (after (machine Y) cs s) (afterᵍ (D3.carriedOut (machine Y) cs s) g) × (halfWords (after (machine Y) cs s .heap) ≡ halfWords (s .heap))
+      → Represents Y (after (machine Y) cs s) (afterᵍ (D3.carriedOut (machine Y) cs s) g)
+      × (halfWords (after (machine Y) cs s .heap) ≡ halfWords (s .heap))
       × (length (after (machine Y) cs s .roots) ≡ length (s .roots))
   unfolding after afterᵍ D3.carriedOut
   after-represents [] s g m = (m, refl, refl)
@@ -132,7 +137,8 @@ module _ (Y : Layout) (law : Lawful Y) where
       rw e (ih .0, ih .1 ∙ t, ih .2 ∙ q))
       (by-test (D3.isNoRoom (step Y c s .answer)))
     where
-      full-stands : (c : Call) (s : State) (g : Graph) → Represents Y s g → step Y c s .answer ≡ D3.noRoom → Represents Y (step Y c s .left) g
+      full-stands : (c : Call) (s : State) (g : Graph) → Represents Y s g → step Y c s .answer ≡ D3.noRoom
+          → Represents Y (step Y c s .left) g
       full-stands c s g m e =
           ⊎-elim (λ (u : Full Y c s g (step Y c s)). u .stands)
           (λ (a : Agrees Y (step Y c s) (stepᵍ c g)). absurd (graph-room c g (sym (a .0) ∙ e)))
@@ -148,11 +154,13 @@ module _ (Y : Layout) (law : Lawful Y) where
       (λ (u : Full Y c s g (step Y c s)).
       ⊎-elim
       (λ (e : Says.Refused k ≡ step Y c s .answer). n (refused-same k Why.Room (e ∙ u .answers)))
-      (λ (y : List·Memᴰ (Says.Refused k) (answers (machine Y) cs (step Y c s .left))). session-refuses cs (step Y c s .left) g (u .stands) k n o y)
+      (λ (y : List·Memᴰ (Says.Refused k) (answers (machine Y) cs (step Y c s .left))).
+      session-refuses cs (step Y c s .left) g (u .stands) k n o y)
       (List·Memᴰ·cases-cons x))
       (λ (a : Agrees Y (step Y c s) (stepᵍ c g)).
       ⊎-elim
       (λ (e : Says.Refused k ≡ step Y c s .answer). never (graph-refuses c g k (sym (e ∙ a .0))) o)
-      (λ (y : List·Memᴰ (Says.Refused k) (answers (machine Y) cs (step Y c s .left))). session-refuses cs (step Y c s .left) (stepᵍ c g .left) (a .1) k n o y)
+      (λ (y : List·Memᴰ (Says.Refused k) (answers (machine Y) cs (step Y c s .left))).
+      session-refuses cs (step Y c s .left) (stepᵍ c g .left) (a .1) k n o y)
       (List·Memᴰ·cases-cons x))
       (step-goes c s g m)

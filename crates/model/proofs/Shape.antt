@@ -72,7 +72,8 @@ first-most S A = omega arith
 first-most S B = omega arith
 
 -- the first word of either half, and where it ends
-pub half-in : (s : State) → Shaped s → (f : Half) → (1 ≤ firstOf (halfWords (s .heap)) f) × (firstOf (halfWords (s .heap)) f + halfWords (s .heap) ≤ length (s .heap))
+pub half-in : (s : State) → Shaped s → (f : Half) → (1 ≤ firstOf (halfWords (s .heap)) f)
+    × (firstOf (halfWords (s .heap)) f + halfWords (s .heap) ≤ length (s .heap))
 half-in s h A = omega (arith, h .odd)
 half-in s h B = omega (arith, h .odd)
 
@@ -83,7 +84,8 @@ pub other-in : (s : State) → Shaped s → (1 ≤ otherFirst s) × (otherFirst 
 other-in s h = half-in s h (other (s .«record» .half))
 
 -- a word of the other half is none of the current one
-pub halves-apart : (s : State) (i : ℕ) → otherFirst s ≤ i → i < otherFirst s + halfWords (s .heap) → (i < firstWord s) ⊎ (firstWord s + halfWords (s .heap) ≤ i)
+pub halves-apart : (s : State) (i : ℕ) → otherFirst s ≤ i → i < otherFirst s + halfWords (s .heap)
+    → (i < firstWord s) ⊎ (firstWord s + halfWords (s .heap) ≤ i)
 halves-apart s = go (s .«record» .half) (halfWords (s .heap))
   where
     go : (f : Half) (S i : ℕ) → firstOf S (other f) ≤ i → i < firstOf S (other f) + S → (i < firstOf S f) ⊎ (firstOf S f + S ≤ i)
@@ -95,6 +97,11 @@ pub halves-cover : (s : State) → Shaped s → (i : ℕ) → 1 ≤ i → i < le
     → ((firstWord s ≤ i) × (i < firstWord s + halfWords (s .heap))) ⊎ ((otherFirst s ≤ i) × (i < otherFirst s + halfWords (s .heap)))
 halves-cover s h i p l = go (s .«record» .half)
   where
-    go : (f : Half) → ((firstOf (halfWords (s .heap)) f ≤ i) × (i < firstOf (halfWords (s .heap)) f + halfWords (s .heap))) ⊎ ((firstOf (halfWords (s .heap)) (other f) ≤ i) × (i < firstOf (halfWords (s .heap)) (other f) + halfWords (s .heap)))
-    go A = ⊎-elim (λ (k : i < halfWords (s .heap) + 1). inl (omega arith)) (λ (k : halfWords (s .heap) + 1 ≤ i). inr (omega (arith, h .odd))) (decide i (halfWords (s .heap) + 1))
-    go B = ⊎-elim (λ (k : i < halfWords (s .heap) + 1). inr (omega arith)) (λ (k : halfWords (s .heap) + 1 ≤ i). inl (omega (arith, h .odd))) (decide i (halfWords (s .heap) + 1))
+    go : (f : Half) → ((firstOf (halfWords (s .heap)) f ≤ i) × (i < firstOf (halfWords (s .heap)) f + halfWords (s .heap))) ⊎
+        ((firstOf (halfWords (s .heap)) (other f) ≤ i) × (i < firstOf (halfWords (s .heap)) (other f) + halfWords (s .heap)))
+    go A =
+        ⊎-elim (λ (k : i < halfWords (s .heap) + 1). inl (omega arith))
+        (λ (k : halfWords (s .heap) + 1 ≤ i). inr (omega (arith, h .odd))) (decide i (halfWords (s .heap) + 1))
+    go B =
+        ⊎-elim (λ (k : i < halfWords (s .heap) + 1). inr (omega arith))
+        (λ (k : halfWords (s .heap) + 1 ≤ i). inl (omega (arith, h .odd))) (decide i (halfWords (s .heap) + 1))

@@ -29,14 +29,17 @@ module _ (Y : Layout) where
   marked-length H o b [] = refl
   marked-length H o b (i ∷ js) = length-set (marked Y H o b js) i _ ∙ marked-length H o b js
 
-  pub marked-in : (H o : List ℕ) (b : ℕ) (js : List ℕ) (j : ℕ) → j < length H → In j js → at (marked Y H o b js) j ≡ Y .mark (address Y (b + wordsBefore (cells Y H) o j))
+  pub marked-in : (H o : List ℕ) (b : ℕ) (js : List ℕ) (j : ℕ) → j < length H → In j js
+      → at (marked Y H o b js) j ≡ Y .mark (address Y (b + wordsBefore (cells Y H) o j))
   unfolding marked
   marked-in H o b [] j l m = in-nil j m
   marked-in H o b (i ∷ js) j l m =
       ⊎-elim
       (λ (e : j ≡ i).
-      subst (λ z. at (set (marked Y H o b js) i (Y .mark (address Y (b + wordsBefore (cells Y H) o i)))) z ≡ Y .mark (address Y (b + wordsBefore (cells Y H) o z))) (sym e)
-      (getD-set-same (marked Y H o b js) i (Y .mark (address Y (b + wordsBefore (cells Y H) o i))) 0 (let z = marked-length H o b js in omega arith)))
+      subst (λ z. at (set (marked Y H o b js) i (Y .mark (address Y (b + wordsBefore (cells Y H) o i)))) z
+      ≡ Y .mark (address Y (b + wordsBefore (cells Y H) o z))) (sym e)
+      (getD-set-same (marked Y H o b js) i (Y .mark (address Y (b + wordsBefore (cells Y H) o i))) 0
+      (let z = marked-length H o b js in omega arith)))
       (λ (d : j ≡ i → ⊥).
       getD-set-other (marked Y H o b js) i j (Y .mark (address Y (b + wordsBefore (cells Y H) o i))) 0 d
       ∙ marked-in H o b js j l (in-other j i js m (ne-eqb j i d)))
@@ -73,7 +76,13 @@ module _ (Y : Layout) (s : State) (h : Sound Y s) (o : List ℕ) (heads : (i : �
   words-length : length (passed ++ coming) ≡ length cs
   words-length =
       length-append passed coming
-      ∙ omega (arith, length-map (take p cs) (settle Y (s .heap) o (otherFirst s)), length-take p cs, length-map (drop p cs) oldWord, length-drop p cs)
+      ∙ omega (
+        arith,
+        length-map (take p cs) (settle Y (s .heap) o (otherFirst s)),
+        length-take p cs,
+        length-map (drop p cs) oldWord,
+        length-drop p cs,
+      )
 
   words-fit : length (passed ++ coming) ≤ S
   words-fit = omega (arith, words-length, fit)
@@ -89,11 +98,13 @@ module _ (Y : Layout) (s : State) (h : Sound Y s) (o : List ℕ) (heads : (i : �
       )
 
   -- a word of the new half that is passed, one that is not, and one past the copies
-  pub stage-passed : (m : ℕ) → m < p → m < length cs → at (d .heap) (otherFirst s + m) ≡ settle Y (s .heap) o (otherFirst s) (getD cs m (still 0))
+  pub stage-passed : (m : ℕ) → m < p → m < length cs → at (d .heap) (otherFirst s + m)
+      ≡ settle Y (s .heap) o (otherFirst s) (getD cs m (still 0))
   unfolding stage
   stage-passed m l k =
       let n = length-take p cs in
-      build-new (other (s .«record» .half)) S m (filled S (passed ++ coming)) old (filled-length S (passed ++ coming) words-fit) old-length (omega (arith, words-length, words-fit))
+      build-new (other (s .«record» .half)) S m (filled S (passed ++ coming)) old
+      (filled-length S (passed ++ coming) words-fit) old-length (omega (arith, words-length, words-fit))
       ∙ filled-in S m (passed ++ coming) (omega (arith, words-length))
       ∙ List·getD-append passed coming 0 m (omega (arith, length-map (take p cs) (settle Y (s .heap) o (otherFirst s))))
       ∙ getD-map (settle Y (s .heap) o (otherFirst s)) (take p cs) m (still 0) 0 (omega arith)
@@ -105,7 +116,8 @@ module _ (Y : Layout) (s : State) (h : Sound Y s) (o : List ℕ) (heads : (i : �
       let n = length-take p cs in
       let a : length passed ≡ p = omega (arith, length-map (take p cs) (settle Y (s .heap) o (otherFirst s))) in
       let e : m ≡ length passed + (m - p) = omega arith in
-      build-new (other (s .«record» .half)) S m (filled S (passed ++ coming)) old (filled-length S (passed ++ coming) words-fit) old-length (omega (arith, words-length, words-fit))
+      build-new (other (s .«record» .half)) S m (filled S (passed ++ coming)) old
+      (filled-length S (passed ++ coming) words-fit) old-length (omega (arith, words-length, words-fit))
       ∙ filled-in S m (passed ++ coming) (omega (arith, words-length))
       ∙ ap (λ z. at (passed ++ coming) z) e
       ∙ getD-append-add passed coming (m - p) 0
@@ -115,7 +127,8 @@ module _ (Y : Layout) (s : State) (h : Sound Y s) (o : List ℕ) (heads : (i : �
   pub stage-rest : (m : ℕ) → length cs ≤ m → m < S → at (d .heap) (otherFirst s + m) ≡ 0
   unfolding stage
   stage-rest m l k =
-      build-new (other (s .«record» .half)) S m (filled S (passed ++ coming)) old (filled-length S (passed ++ coming) words-fit) old-length k
+      build-new (other (s .«record» .half)) S m (filled S (passed ++ coming)) old
+      (filled-length S (passed ++ coming) words-fit) old-length k
       ∙ filled-out S m (passed ++ coming) (omega (arith, words-length)) k
 
   -- a word of the old half
@@ -123,7 +136,8 @@ module _ (Y : Layout) (s : State) (h : Sound Y s) (o : List ℕ) (heads : (i : �
   unfolding stage
   stage-old m k =
       ap (λ z. at (d .heap) (firstOf S z + m)) (sym (other-other (s .«record» .half)))
-      ∙ build-old (other (s .«record» .half)) S m (filled S (passed ++ coming)) old (filled-length S (passed ++ coming) words-fit) old-length k
+      ∙ build-old (other (s .«record» .half)) S m (filled S (passed ++ coming)) old
+      (filled-length S (passed ++ coming) words-fit) old-length k
       ∙ getD-take S (drop (firstWord s) (marked Y (s .heap) o (otherFirst s) o)) m 0 k
       ∙ getD-drop (firstWord s) (marked Y (s .heap) o (otherFirst s) o) m 0
 

@@ -41,7 +41,8 @@ module _ (Y : Layout) where
       omega arith)
       (or-cases (eqb i e) _ h)
 
-  pub tiles-more : (H : List ℕ) (e n i : ℕ) → i < e → Y .isHeader (at H i) ≡ true → tiles Y H e n (i + size Y H i) ≡ true → tiles Y H e (suc n) i ≡ true
+  pub tiles-more : (H : List ℕ) (e n i : ℕ) → i < e → Y .isHeader (at H i) ≡ true → tiles Y H e n (i + size Y H i) ≡ true
+      → tiles Y H e (suc n) i ≡ true
   unfolding tiles
   tiles-more H e n i l k t = rw (ne-eqb i e (λ z. omega arith), lt-ltb i e l, k, t)
 
@@ -87,7 +88,8 @@ module _ (Y : Layout) where
       (by-test (ltb i e))
 
   -- two headers of a tiling do not overlap
-  pub headers-apart : (H : List ℕ) (e n i j k : ℕ) → tiles Y H e n i ≡ true → In j (headersFrom Y H e n i) → In k (headersFrom Y H e n i) → j < k → j + size Y H j ≤ k
+  pub headers-apart : (H : List ℕ) (e n i j k : ℕ) → tiles Y H e n i ≡ true → In j (headersFrom Y H e n i)
+      → In k (headersFrom Y H e n i) → j < k → j + size Y H j ≤ k
   unfolding headersFrom
   headers-apart H e zero i j k t a b l = in-nil j a
   headers-apart H e (suc n) i j k t a b l =
@@ -112,7 +114,8 @@ module _ (Y : Layout) where
       (by-test (ltb i e))
 
   -- the objects' words are the words of the tiled part
-  pub headers-words : (H : List ℕ) (e n i : ℕ) → e ≤ length H → tiles Y H e n i ≡ true → length (packed (cells Y H) (headersFrom Y H e n i)) ≡ e - i
+  pub headers-words : (H : List ℕ) (e n i : ℕ) → e ≤ length H → tiles Y H e n i ≡ true
+      → length (packed (cells Y H) (headersFrom Y H e n i)) ≡ e - i
   unfolding headersFrom packed tiles
   headers-words H e zero i w t = let q = eqb-true i e t in omega arith
   headers-words H e (suc n) i w t =

@@ -71,7 +71,8 @@ module _ (Y : Layout) where
   untraced-leads Traced w j e = (refl, e)
   untraced-leads Untraced w j e = absurd (no-some j e)
 
-  pub cell-leads : (H : List ℕ) (i k j : ℕ) → i + size Y H i ≤ length H → cellLeads Y (getD (cells Y H i) k (still 0)) ≡ some j → Leads H i k j
+  pub cell-leads : (H : List ℕ) (i k j : ℕ) → i + size Y H i ≤ length H → cellLeads Y (getD (cells Y H i) k (still 0)) ≡ some j
+      → Leads H i k j
   cell-leads H i zero j l e = absurd (no-some j e)
   cell-leads H i (suc f) j l e =
       ⊎-elim
@@ -87,7 +88,8 @@ module _ (Y : Layout) where
       let n = fields-length Y H i l in
       let m = length-map (fieldWords Y H i) (fieldCell (kind Y H i)) in
       let c : getD (cells Y H i) (suc f) (still 0) ≡ still 0 =
-      List·getD-eq-default (map (fieldCell (kind Y H i)) (fieldWords Y H i)) (still 0) (let z : fieldCount Y H i ≤ f = ltb-false _ _ b in omega arith) in
+      List·getD-eq-default (map (fieldCell (kind Y H i)) (fieldWords Y H i)) (still 0)
+      (let z : fieldCount Y H i ≤ f = ltb-false _ _ b in omega arith) in
       absurd (no-some j (ap (cellLeads Y) (sym c) ∙ e)))
       (by-test (ltb f (fieldCount Y H i)))
 

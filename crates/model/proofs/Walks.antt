@@ -58,11 +58,13 @@ module _ (Y : Layout) (H : List ℕ) (e : ℕ) where
 
   -- ---- a test of each header, one after the other
   module _ (q : ℕ → Bool) (i : ℕ) where
-    all-turn : i < e → (b : Bool) → q i ≡ b → all q (headersFrom Y H e (e - i) i) ≡ (b && all q (headersFrom Y H e (e - (i + size Y H i)) (i + size Y H i)))
+    all-turn : i < e → (b : Bool) → q i ≡ b → all q (headersFrom Y H e (e - i) i)
+        ≡ (b && all q (headersFrom Y H e (e - (i + size Y H i)) (i + size Y H i)))
     all-turn more b t =
         ap (all q) (headers-turn i more) ∙ ap (λ (b : Bool). b && all q (headersFrom Y H e (e - (i + size Y H i)) (i + size Y H i))) t
 
-    pub all-passed : i < e → q i ≡ true → all q (headersFrom Y H e (e - (i + size Y H i)) (i + size Y H i)) ≡ all q (headersFrom Y H e (e - i) i)
+    pub all-passed : i < e → q i ≡ true → all q (headersFrom Y H e (e - (i + size Y H i)) (i + size Y H i))
+        ≡ all q (headersFrom Y H e (e - i) i)
     all-passed more t = sym (all-turn more true t)
 
     pub all-failed : i < e → q i ≡ false → all q (headersFrom Y H e (e - i) i) ≡ false

@@ -59,7 +59,8 @@ cleared-inside h from (suc n) k a b c =
     let s = cleared-length h from n in
     ⊎-elim
     (λ (e : k ≡ from + n). rw e (getD-set-same (cleared h from n) (from + n) 0 0 (omega arith)))
-    (λ (e : k ≡ from + n → ⊥). getD-set-other (cleared h from n) (from + n) k 0 0 e ∙ cleared-inside h from n k (omega arith) b (omega arith))
+    (λ (e : k ≡ from + n → ⊥).
+    getD-set-other (cleared h from n) (from + n) k 0 0 e ∙ cleared-inside h from n k (omega arith) b (omega arith))
     (same? k (from + n))
 
 -- the model writes a run of zeros from the front
@@ -87,20 +88,26 @@ copied-outside h from to zero k o = refl
 copied-outside h from to (suc n) k o =
     getD-set-other (copiedRun h from to n) (to + n) k _ 0 (outside-last to n k o) ∙ copied-outside h from to n k (outside-less to n k o)
 
-pub copied-inside : (h : List ℕ) (from to n j : ℕ) → Apart from to n → to + n ≤ length h → j < n → at (copiedRun h from to n) (to + j) ≡ at h (from + j)
+pub copied-inside : (h : List ℕ) (from to n j : ℕ) → Apart from to n → to + n ≤ length h → j < n
+    → at (copiedRun h from to n) (to + j) ≡ at h (from + j)
 unfolding copiedRun
 copied-inside h from to zero j o a b = absurd (omega arith)
 copied-inside h from to (suc n) j o a b =
     let s = copied-length h from to n in
     ⊎-elim
-    (λ (e : j ≡ n). rw e (getD-set-same (copiedRun h from to n) (to + n) _ 0 (omega arith) ∙ copied-outside h from to n (from + n) (apart-outside from to n o)))
-    (λ (e : j ≡ n → ⊥). getD-set-other (copiedRun h from to n) (to + n) (to + j) _ 0 (λ z. e (omega arith)) ∙ copied-inside h from to n j (apart-less from to n o) (omega arith) (omega arith))
+    (λ (e : j ≡ n).
+    rw e (getD-set-same (copiedRun h from to n) (to + n) _ 0 (omega arith)
+    ∙ copied-outside h from to n (from + n) (apart-outside from to n o)))
+    (λ (e : j ≡ n → ⊥).
+    getD-set-other (copiedRun h from to n) (to + n) (to + j) _ 0 (λ z. e (omega arith))
+    ∙ copied-inside h from to n j (apart-less from to n o) (omega arith) (omega arith))
     (same? j n)
 
 -- the first word may be stored by itself
 pub copied-front : (h : List ℕ) (from to n : ℕ) → copiedRun (set h to (at h from)) (from + 1) (to + 1) n ≡ copiedRun h from to (suc n)
 unfolding copiedRun
-copied-front h from to zero = ap (λ (x : ℕ). set h x (at h from)) (sym (add-zero to)) ∙ ap (λ (x : ℕ). set h (to + 0) (at h x)) (sym (add-zero from))
+copied-front h from to zero =
+    ap (λ (x : ℕ). set h x (at h from)) (sym (add-zero to)) ∙ ap (λ (x : ℕ). set h (to + 0) (at h x)) (sym (add-zero from))
 copied-front h from to (suc n) =
     ap (λ (x : List ℕ). set x (to + 1 + n) (at x (from + 1 + n))) (copied-front h from to n)
     ∙ ap (λ (x : ℕ). set (copiedRun h from to (suc n)) x (at (copiedRun h from to (suc n)) (from + 1 + n))) (omega arith)
@@ -138,13 +145,16 @@ bits-more h from i b l e =
     ∙ sym (ap (all isNull) (run-more h from i l) ∙ all-append isNull (run h from i) (at h (from + i) ∷ []))
 
 -- a run is all 0 where its first m words and the others are
-zero-parts : (h : List ℕ) (from m n : ℕ) (b : Bool) → m ≤ n → all isNull (run h from m) ≡ b → all isNull (run h from n) ≡ (b && all isNull (run h (from + m) (n - m)))
+zero-parts : (h : List ℕ) (from m n : ℕ) (b : Bool) → m ≤ n → all isNull (run h from m) ≡ b
+    → all isNull (run h from n) ≡ (b && all isNull (run h (from + m) (n - m)))
 zero-parts h from m n b l e =
     let s : n ≡ m + (n - m) = omega arith in
-    ap (λ (x : ℕ). all isNull (run h from x)) s ∙ ap (all isNull) (run-apart h from m (n - m)) ∙ all-append isNull (run h from m) (run h (from + m) (n - m))
+    ap (λ (x : ℕ). all isNull (run h from x)) s ∙ ap (all isNull) (run-apart h from m (n - m))
+    ∙ all-append isNull (run h from m) (run h (from + m) (n - m))
     ∙ ap (λ (x : Bool). x && all isNull (run h (from + m) (n - m))) e
 
-pub zero-passed : (h : List ℕ) (from m n : ℕ) → m ≤ n → all isNull (run h from m) ≡ true → all isNull (run h (from + m) (n - m)) ≡ all isNull (run h from n)
+pub zero-passed : (h : List ℕ) (from m n : ℕ) → m ≤ n → all isNull (run h from m) ≡ true
+    → all isNull (run h (from + m) (n - m)) ≡ all isNull (run h from n)
 zero-passed h from m n l e = sym (zero-parts h from m n true l e)
 
 pub zero-failed : (h : List ℕ) (from m n : ℕ) → m ≤ n → all isNull (run h from m) ≡ false → all isNull (run h from n) ≡ false

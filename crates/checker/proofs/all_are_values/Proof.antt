@@ -22,8 +22,7 @@ all-fields-are-values-requires c κs = search needs
 
 returns-2 : tie.Need-returns-2
 returns-2 c =
-    let good = c .before in
-    values-good tuple _ _ _ (sym (not-false _ (good .if1 .left)) ∙ good .before .are-values .ensures)
+    values-good tuple _ _ _ (sym (not-false _ (c .before .if1 .left)) ∙ c .before .before .are-values .ensures)
     _ (c .all-fields-are-values .ensures)
 
 pub all-are-values-spec : {M : Type 1} → statement M
