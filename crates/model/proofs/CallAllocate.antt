@@ -16,7 +16,7 @@ use Rattle.model.specs.Changes.{spare, placed}
 use Rattle.model.specs.Collection.{live, collected}
 use Rattle.model.specs.Demand3 as D3
 use Rattle.model.specs.Graph.{Graph}
-use Rattle.model.specs.GraphCalls.{saysᵍ, refuseᵍ, grown, stepᵍ}
+use Rattle.model.specs.GraphCalls.{graphSays, graphRefuse, grown, graphStep}
 use Rattle.model.specs.Headers.{Layout, Lawful}
 use Rattle.model.specs.Limits.{maxFields}
 use Rattle.model.specs.Sessions.{step}
@@ -96,8 +96,8 @@ pub record Full (Y : Layout) (c : Call) (s : State) (g : Graph) (o : Outcome) : 
 module _ (Y : Layout) (law : Lawful Y) where
   pub allocate-agrees : (k : Kind) (n r : ℕ) (s : State) (g : Graph) → Represents Y s g
       → Full Y (Ask.Allocate k n r) s g (step Y (Ask.Allocate k n r) s) ⊎ Agrees Y (step Y (Ask.Allocate k n r) s)
-      (stepᵍ (Ask.Allocate k n r) g)
-  unfolding stepᵍ refuseᵍ
+      (graphStep (Ask.Allocate k n r) g)
+  unfolding graphStep graphRefuse
   allocate-agrees k n r s g m =
       ⊎-elim
       (λ (l : r < length (s .roots)).
@@ -117,7 +117,7 @@ module _ (Y : Layout) (law : Lawful Y) where
       (decide r (length (s .roots)))
     where
       go : (o : Outcome) → r < length (s .roots) → n ≤ maxFields → Allocation Y k n r s o
-          → Full Y (Ask.Allocate k n r) s g o ⊎ Agrees Y o (saysᵍ Says.Done (grown k n r g))
+          → Full Y (Ask.Allocate k n r) s g o ⊎ Agrees Y o (graphSays Says.Done (grown k n r g))
       go o l u (now f) = inr (refl, place-represents Y law s g m k n r u f)
       go o l u (later f) =
           inr (refl, place-represents Y law (collected Y s) g (collect-represents Y s g m) k n r u (omega (arith, spare-after Y s (m .ok))))

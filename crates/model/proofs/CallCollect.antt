@@ -12,8 +12,8 @@ use Rattle.model.specs.Answers.{refuse}
 use Rattle.model.specs.Collection.{still, fieldCell, cells, wordLeads, cellLeads, orderAt, order, live, collected}
 use Rattle.model.specs.Demand2 as D
 use Rattle.model.specs.Discovery.{packed}
-use Rattle.model.specs.Graph.{null, Value, plain, object, Object, traced, untraced, Graph, nth, rootValue, valueLeads, objectCells, graphCells, itself, totalWords, orderᵍ, liveᵍ}
-use Rattle.model.specs.GraphCalls.{stepᵍ}
+use Rattle.model.specs.Graph.{null, Value, plain, object, Object, traced, untraced, Graph, nth, rootValue, valueLeads, objectCells, graphCells, itself, totalWords, graphOrder, graphLive}
+use Rattle.model.specs.GraphCalls.{graphStep}
 use Rattle.model.specs.Headers.{Layout}
 use Rattle.model.specs.Objects.{address, index, kind, fieldCount, size, fieldWords}
 use Rattle.model.specs.Sessions.{step}
@@ -90,65 +90,65 @@ module _ (Y : Layout) (s : State) (g : Graph) (m : Represents Y s g) where
       (rep-along (rootValue g k) (at (s .roots) k) (m .roots k n))
 
   -- both are discovered alike
-  pub order-along : (p : ℕ) → (orderAt Y s p ≡ map (m .pl) (orderᵍ g p)) × Inside (m .ids) (m .pl) (m .apart) (orderᵍ g p)
-  unfolding orderAt orderᵍ
+  pub order-along : (p : ℕ) → (orderAt Y s p ≡ map (m .pl) (graphOrder g p)) × Inside (m .ids) (m .pl) (m .apart) (graphOrder g p)
+  unfolding orderAt graphOrder
   order-along p =
       found-along (m .ids) (m .pl) (m .apart) (graphCells g) none itself (cells Y (s .heap)) (still 0) (cellLeads Y) refl refl
       (λ x i. object-size (nth g x) (m .pl x) (within x i) (m .holds x i))
       (λ x k i l. object-alike (nth g x) (m .pl x) k (within x i) (m .holds x i) l)
       (map valueLeads (g .roots)) (map (wordLeads Y) (s .roots)) roots-count roots-along p
 
-  words-along : (p : ℕ) → length (packed (cells Y (s .heap)) (orderAt Y s p)) ≡ length (packed (graphCells g) (orderᵍ g p))
+  words-along : (p : ℕ) → length (packed (cells Y (s .heap)) (orderAt Y s p)) ≡ length (packed (graphCells g) (graphOrder g p))
   words-along p =
       rw (order-along p .0)
       (packed-sizes (m .ids) (m .pl) (m .apart) (graphCells g) none itself (cells Y (s .heap)) (still 0) (cellLeads Y) refl refl
       (λ x i. object-size (nth g x) (m .pl x) (within x i) (m .holds x i))
       (λ x k i l. object-alike (nth g x) (m .pl x) k (within x i) (m .holds x i) l)
-      (orderᵍ g p) (order-along p .1))
+      (graphOrder g p) (order-along p .1))
 
-  pub graph-fits : (p : ℕ) → length (packed (graphCells g) (orderᵍ g p)) ≤ totalWords (g .objects)
-  unfolding orderᵍ
+  pub graph-fits : (p : ℕ) → length (packed (graphCells g) (graphOrder g p)) ≤ totalWords (g .objects)
+  unfolding graphOrder
   graph-fits p =
-      let w = packed-within (graphCells g) (orderᵍ g p) (below (length (g .objects)))
+      let w = packed-within (graphCells g) (graphOrder g p) (below (length (g .objects)))
       (found-distinct (graphCells g) none itself (map valueLeads (g .roots)) p)
       (λ x i. in-below x (length (g .objects)) (m .known x (order-along p .1 x i))) in
       omega (arith, total-packed (g .objects))
 
-  orders-same : orderᵍ g (halfWords (s .heap)) ≡ orderᵍ g (totalWords (g .objects))
-  unfolding orderᵍ
+  orders-same : graphOrder g (halfWords (s .heap)) ≡ graphOrder g (totalWords (g .objects))
+  unfolding graphOrder
   orders-same =
       found-settled (graphCells g) none itself (map valueLeads (g .roots)) refl (halfWords (s .heap)) (totalWords (g .objects))
       (omega (arith, words-along (halfWords (s .heap)), order-fits Y s (m .ok)))
       (graph-fits (totalWords (g .objects)))
 
   -- the live words are the graph's
-  pub live-same : live Y s ≡ liveᵍ g
-  unfolding liveᵍ
+  pub live-same : live Y s ≡ graphLive g
+  unfolding graphLive
   live-same = live-is Y s (m .ok) ∙ words-along (halfWords (s .heap)) ∙ ap (λ o. length (packed (graphCells g) o)) orders-same
 
   abbrev c : D.Collects Y s (collected Y s) (live Y s)
   c = collects Y s (m .ok)
 
   abbrev ids′ : List ℕ
-  ids′ = orderᵍ g (halfWords (s .heap))
+  ids′ = graphOrder g (halfWords (s .heap))
 
   abbrev pl′ : ℕ → ℕ
   pl′ x = D.copyIndex Y s (m .pl x)
 
-  kept-known : (x : ℕ) → In x (orderᵍ g (halfWords (s .heap))) → In x (m .ids)
+  kept-known : (x : ℕ) → In x (graphOrder g (halfWords (s .heap))) → In x (m .ids)
   kept-known x i = order-along (halfWords (s .heap)) .1 x i
 
-  kept-order : (x : ℕ) → In x (orderᵍ g (halfWords (s .heap))) → In (m .pl x) (order Y s)
-  kept-order x i = rw (order-along (halfWords (s .heap)) .0) (in-map (m .pl) x (orderᵍ g (halfWords (s .heap))) i)
+  kept-order : (x : ℕ) → In x (graphOrder g (halfWords (s .heap))) → In (m .pl x) (order Y s)
+  kept-order x i = rw (order-along (halfWords (s .heap)) .0) (in-map (m .pl) x (graphOrder g (halfWords (s .heap))) i)
 
-  kept-reach : (x : ℕ) → In x (orderᵍ g (halfWords (s .heap))) → D.Reach Y s (m .pl x)
+  kept-reach : (x : ℕ) → In x (graphOrder g (halfWords (s .heap))) → D.Reach Y s (m .pl x)
   kept-reach x i = c .listed (m .pl x) (in-mem (m .pl x) (order Y s) (kept-order x i))
 
-  reach-kept : (x : ℕ) → In x (m .ids) → D.Reach Y s (m .pl x) → In x (orderᵍ g (halfWords (s .heap)))
+  reach-kept : (x : ℕ) → In x (m .ids) → D.Reach Y s (m .pl x) → In x (graphOrder g (halfWords (s .heap)))
   reach-kept x i r =
       let o : In (m .pl x) (order Y s) = mem-in (m .pl x) (order Y s) (c .reached (m .pl x) r) in
-      let t = map-in-out (m .pl) (m .pl x) (orderᵍ g (halfWords (s .heap))) (rw (order-along (halfWords (s .heap)) .0) at o) in
-      subst (λ z. In z (orderᵍ g (halfWords (s .heap)))) (m .apart (t .0) x (kept-known (t .0) (t .1)) i (t .2)) (t .1)
+      let t = map-in-out (m .pl) (m .pl x) (graphOrder g (halfWords (s .heap))) (rw (order-along (halfWords (s .heap)) .0) at o) in
+      subst (λ z. In z (graphOrder g (halfWords (s .heap)))) (m .apart (t .0) x (kept-known (t .0) (t .1)) i (t .2)) (t .1)
 
   -- a value and what its word became
   became : (v : Value) (w w′ : ℕ) → Rep Y (m .ids) (m .pl) v w → D.Became Y s w w′
@@ -193,6 +193,6 @@ module _ (Y : Layout) (s : State) (g : Graph) (m : Represents Y s g) where
     holds = λ x i. kept-holds (nth g x) (m .pl x) (kept-reach x i) (m .holds x (kept-known x i));
   }
 
-  pub collect-agrees : Agrees Y (step Y Ask.Collect s) (stepᵍ Ask.Collect g)
-  unfolding step Calls.collect stepᵍ refuse
+  pub collect-agrees : Agrees Y (step Y Ask.Collect s) (graphStep Ask.Collect g)
+  unfolding step Calls.collect graphStep refuse
   collect-agrees = rw (unshaped s (m .ok .shape), sound-whole Y s (m .ok), live-same) (refl, collect-represents)

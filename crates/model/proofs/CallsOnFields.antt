@@ -19,7 +19,7 @@ use Rattle.model.specs.Answers.{Outcome, refuse}
 use Rattle.model.specs.Calls.{isOfKind, onField}
 use Rattle.model.specs.Changes.{noRoot, rootWord, withWord}
 use Rattle.model.specs.Graph.{null, Value, plain, object, Object, traced, untraced, Graph, nth, rootValue}
-use Rattle.model.specs.GraphCalls.{Outcomeᵍ, saysᵍ, refuseᵍ, noRootᵍ, withRootᵍ, withObject, byKind, onObject, wrongKind, stepᵍ}
+use Rattle.model.specs.GraphCalls.{GraphOutcome, graphSays, graphRefuse, graphNoRoot, graphWithRoot, withObject, byKind, onObject, wrongKind, graphStep}
 use Rattle.model.specs.Headers.{Layout}
 use Rattle.model.specs.Objects.{isTraced, fieldIndex, address, index, kind, fieldCount, names}
 use Rattle.model.specs.Sessions.{step}
@@ -44,7 +44,7 @@ module _ (Y : Layout) where
 
   -- the object that a value's word names, or OBJECT in both
   on-object : (s : State) (g : Graph) (m : Represents Y s g) (k : Kind) (v : Value) (w f : ℕ) (next : Outcome)
-      (t : ℕ → List Value → Outcomeᵍ) (u : ℕ → List ℕ → Outcomeᵍ)
+      (t : ℕ → List Value → GraphOutcome) (u : ℕ → List ℕ → GraphOutcome)
       → Rep Y (m .ids) (m .pl) v w
       → ((x : ℕ) → In x (m .ids) → w ≡ address Y (m .pl x) → Agrees Y
       (refuse (not (isOfKind k (kind Y (s .heap) (m .pl x)))) Why.Kind s
@@ -61,11 +61,11 @@ module _ (Y : Layout) where
       rw (n, d) (a x (e .0) (e .1))
 
   -- a field of a traced object, KIND or FIELD
-  traced-object : (s : State) (g : Graph) (m : Represents Y s g) (x f : ℕ) (next : Outcome) (t : List Value → Outcomeᵍ) (b : Object)
+  traced-object : (s : State) (g : Graph) (m : Represents Y s g) (x f : ℕ) (next : Outcome) (t : List Value → GraphOutcome) (b : Object)
       → Holds Y (m .ids) (m .pl) (s .heap) b (m .pl x) → ((vs : List Value) → b ≡ traced vs → f < length vs → Agrees Y next (t vs))
       → Agrees Y
       (refuse (not (isTraced (kind Y (s .heap) (m .pl x)))) Why.Kind s (refuse (leb (fieldCount Y (s .heap) (m .pl x)) f) Why.Field s next))
-      (byKind b (λ vs. refuseᵍ (leb (length vs) f) Why.Field g (t vs)) (wrongKind g x))
+      (byKind b (λ vs. graphRefuse (leb (length vs) f) Why.Field g (t vs)) (wrongKind g x))
   unfolding refuse
   traced-object s g m x f next t (traced vs) h k =
       rw (h .0, h .1)
@@ -74,12 +74,12 @@ module _ (Y : Layout) where
   traced-object s g m x f next t (untraced ws) h k = rw (h .0) (refl, m)
 
   -- and of an untraced one
-  untraced-object : (s : State) (g : Graph) (m : Represents Y s g) (x f : ℕ) (next : Outcome) (t : List ℕ → Outcomeᵍ) (b : Object)
+  untraced-object : (s : State) (g : Graph) (m : Represents Y s g) (x f : ℕ) (next : Outcome) (t : List ℕ → GraphOutcome) (b : Object)
       → Holds Y (m .ids) (m .pl) (s .heap) b (m .pl x) → ((ws : List ℕ) → b ≡ untraced ws → f < length ws → Agrees Y next (t ws))
       → Agrees Y
       (refuse (not (not (isTraced (kind Y (s .heap) (m .pl x))))) Why.Kind s
       (refuse (leb (fieldCount Y (s .heap) (m .pl x)) f) Why.Field s next))
-      (byKind b (wrongKind g x) (λ ws. refuseᵍ (leb (length ws) f) Why.Field g (t ws)))
+      (byKind b (wrongKind g x) (λ ws. graphRefuse (leb (length ws) f) Why.Field g (t ws)))
   unfolding refuse
   untraced-object s g m x f next t (traced vs) h k = rw (h .0) (refl, m)
   untraced-object s g m x f next t (untraced ws) h k =
@@ -93,27 +93,27 @@ module _ (Y : Layout) where
   held s g m x b i o = subst (λ z. Holds Y (m .ids) (m .pl) (s .heap) z (m .pl x)) o (m .holds x i)
 
   traced-field : (s : State) (g : Graph) (m : Represents Y s g) (v : Value) (w f : ℕ) (next : Outcome)
-      (t : ℕ → List Value → Outcomeᵍ) → Rep Y (m .ids) (m .pl) v w
+      (t : ℕ → List Value → GraphOutcome) → Rep Y (m .ids) (m .pl) v w
       → ((x : ℕ) (vs : List Value) → In x (m .ids) → w ≡ address Y (m .pl x) → nth g x ≡ traced vs → f < length vs → Agrees Y next (t x vs))
-      → Agrees Y (onField Y Traced w f s next) (onObject g v (λ i vs. refuseᵍ (leb (length vs) f) Why.Field g (t i vs)) (wrongKind g))
+      → Agrees Y (onField Y Traced w f s next) (onObject g v (λ i vs. graphRefuse (leb (length vs) f) Why.Field g (t i vs)) (wrongKind g))
   traced-field s g m v w f next t e k =
       on-object s g m Traced v w f next _ _ e (λ x i q.
       traced-object s g m x f next (t x) (nth g x) (m .holds x i) (λ vs o l. k x vs i q o l))
 
   untraced-field : (s : State) (g : Graph) (m : Represents Y s g) (v : Value) (w f : ℕ) (next : Outcome)
-      (t : ℕ → List ℕ → Outcomeᵍ) → Rep Y (m .ids) (m .pl) v w
+      (t : ℕ → List ℕ → GraphOutcome) → Rep Y (m .ids) (m .pl) v w
       → ((x : ℕ) (ws : List ℕ) → In x (m .ids) → w ≡ address Y (m .pl x) → nth g x ≡ untraced ws → f < length ws → Agrees Y next (t x ws))
-      → Agrees Y (onField Y Untraced w f s next) (onObject g v (wrongKind g) (λ i ws. refuseᵍ (leb (length ws) f) Why.Field g (t i ws)))
+      → Agrees Y (onField Y Untraced w f s next) (onObject g v (wrongKind g) (λ i ws. graphRefuse (leb (length ws) f) Why.Field g (t i ws)))
   untraced-field s g m v w f next t e k =
       on-object s g m Untraced v w f next _ _ e (λ x i q.
       untraced-object s g m x f next (t x) (nth g x) (m .holds x i) (λ ws o l. k x ws i q o l))
 
-  pub load-agrees : (r f q : ℕ) (s : State) (g : Graph) → Represents Y s g → Agrees Y (step Y (Ask.Load r f q) s) (stepᵍ (Ask.Load r f q) g)
-  unfolding step Calls.load stepᵍ
+  pub load-agrees : (r f q : ℕ) (s : State) (g : Graph) → Represents Y s g → Agrees Y (step Y (Ask.Load r f q) s) (graphStep (Ask.Load r f q) g)
+  unfolding step Calls.load graphStep
   load-agrees r f q s g m =
       shape-passes Y s g _ _ m
-      (refuse-agrees Y (noRoot s r || noRoot s q) (noRootᵍ g r || noRootᵍ g q) Why.Root s g _ _ m (two-roots Y s g r q m) (λ a.
-      traced-field s g m (rootValue g r) (rootWord s r) f _ (λ i vs. saysᵍ Says.Done (withRootᵍ g q (getD vs f (plain null))))
+      (refuse-agrees Y (noRoot s r || noRoot s q) (graphNoRoot g r || graphNoRoot g q) Why.Root s g _ _ m (two-roots Y s g r q m) (λ a.
+      traced-field s g m (rootValue g r) (rootWord s r) f _ (λ i vs. graphSays Says.Done (graphWithRoot g q (getD vs f (plain null))))
       (m .roots r (has-root Y s g m r (or-none (noRoot s r) (noRoot s q) a .0)))
       (λ x vs i e o l. (
         refl,
@@ -195,13 +195,13 @@ module _ (Y : Layout) where
       )
 
   pub store-agrees : (r f q : ℕ) (s : State) (g : Graph) → Represents Y s g
-      → Agrees Y (step Y (Ask.Store r f q) s) (stepᵍ (Ask.Store r f q) g)
-  unfolding step Calls.store stepᵍ
+      → Agrees Y (step Y (Ask.Store r f q) s) (graphStep (Ask.Store r f q) g)
+  unfolding step Calls.store graphStep
   store-agrees r f q s g m =
       shape-passes Y s g _ _ m
-      (refuse-agrees Y (noRoot s r || noRoot s q) (noRootᵍ g r || noRootᵍ g q) Why.Root s g _ _ m (two-roots Y s g r q m) (λ a.
+      (refuse-agrees Y (noRoot s r || noRoot s q) (graphNoRoot g r || graphNoRoot g q) Why.Root s g _ _ m (two-roots Y s g r q m) (λ a.
       let b = or-none (noRoot s r) (noRoot s q) a in
-      traced-field s g m (rootValue g r) (rootWord s r) f _ (λ i vs. saysᵍ Says.Done (withObject g i (traced (set vs f (rootValue g q)))))
+      traced-field s g m (rootValue g r) (rootWord s r) f _ (λ i vs. graphSays Says.Done (withObject g i (traced (set vs f (rootValue g q)))))
       (m .roots r (has-root Y s g m r (b .0)))
       (λ x vs i e o l. (
         refl,
@@ -210,12 +210,12 @@ module _ (Y : Layout) where
       ))))
 
   pub rawRead-agrees : (r f : ℕ) (s : State) (g : Graph) → Represents Y s g
-      → Agrees Y (step Y (Ask.RawRead r f) s) (stepᵍ (Ask.RawRead r f) g)
-  unfolding step Calls.rawRead stepᵍ
+      → Agrees Y (step Y (Ask.RawRead r f) s) (graphStep (Ask.RawRead r f) g)
+  unfolding step Calls.rawRead graphStep
   rawRead-agrees r f s g m =
       shape-passes Y s g _ _ m
-      (refuse-agrees Y (noRoot s r) (noRootᵍ g r) Why.Root s g _ _ m (same-roots Y s g r m) (λ a.
-      untraced-field s g m (rootValue g r) (rootWord s r) f _ (λ i ws. saysᵍ (Says.Number (getD ws f 0)) g)
+      (refuse-agrees Y (noRoot s r) (graphNoRoot g r) Why.Root s g _ _ m (same-roots Y s g r m) (λ a.
+      untraced-field s g m (rootValue g r) (rootWord s r) f _ (λ i ws. graphSays (Says.Number (getD ws f 0)) g)
       (m .roots r (has-root Y s g m r a))
       (λ x ws i e o l. (ap Says.Number (rw (e, index-address Y (m .pl x)) (held s g m x (untraced ws) i o .2 f l)), m))))
 
@@ -233,11 +233,11 @@ module _ (Y : Layout) where
       )
 
   pub rawWrite-agrees : (r f n : ℕ) (s : State) (g : Graph) → Represents Y s g
-      → Agrees Y (step Y (Ask.RawWrite r f n) s) (stepᵍ (Ask.RawWrite r f n) g)
-  unfolding step Calls.rawWrite stepᵍ
+      → Agrees Y (step Y (Ask.RawWrite r f n) s) (graphStep (Ask.RawWrite r f n) g)
+  unfolding step Calls.rawWrite graphStep
   rawWrite-agrees r f n s g m =
       shape-passes Y s g _ _ m
-      (refuse-agrees Y (noRoot s r) (noRootᵍ g r) Why.Root s g _ _ m (same-roots Y s g r m) (λ a.
-      untraced-field s g m (rootValue g r) (rootWord s r) f _ (λ i ws. saysᵍ Says.Done (withObject g i (untraced (set ws f n))))
+      (refuse-agrees Y (noRoot s r) (graphNoRoot g r) Why.Root s g _ _ m (same-roots Y s g r m) (λ a.
+      untraced-field s g m (rootValue g r) (rootWord s r) f _ (λ i ws. graphSays Says.Done (withObject g i (untraced (set ws f n))))
       (m .roots r (has-root Y s g m r a))
       (λ x ws i e o l. (refl, rw (e, index-address Y (m .pl x)) (raw-represents s g m x f n ws i o l)))))

@@ -17,7 +17,7 @@ use Rattle.model.specs.Calls as Calls
 use Rattle.model.specs.Answers.{says, refuse}
 use Rattle.model.specs.Changes.{noRoot, rootWord, withRoot}
 use Rattle.model.specs.Graph.{Plain, integer, null, Value, plain, object, Object, traced, untraced, Graph, nth, rootValue}
-use Rattle.model.specs.GraphCalls.{saysᵍ, noRootᵍ, withRootᵍ, sameInteger, samePlain, sameValue, byKind, inspected, stepᵍ}
+use Rattle.model.specs.GraphCalls.{graphSays, graphNoRoot, graphWithRoot, sameInteger, samePlain, sameValue, byKind, inspected, graphStep}
 use Rattle.model.specs.Headers.{Layout}
 use Rattle.model.specs.Limits.{maxInteger}
 use Rattle.model.specs.Objects.{address, index, kind, fieldCount, names}
@@ -35,7 +35,7 @@ use Rattle.model.proofs.Tests.{never, same?, or-none}
 module _ (Y : Layout) where
   -- a root is set
   pub root-represents : (s : State) (g : Graph) (m : Represents Y s g) (r w : ℕ) (v : Value) → Rep Y (m .ids) (m .pl) v w
-      → Represents Y (withRoot s r w) (withRootᵍ g r v)
+      → Represents Y (withRoot s r w) (graphWithRoot g r v)
   root-represents s g m r w v e = record {
     ok = root-sound Y s (m .ok) r w (rep-value Y s g m v w e);
     ids = m .ids;
@@ -58,34 +58,34 @@ module _ (Y : Layout) where
   pub has-root : (s : State) (g : Graph) (m : Represents Y s g) (r : ℕ) → noRoot s r ≡ false → r < length (g .roots)
   has-root s g m r e = let z = leb-false (length (s .roots)) r e in omega (arith, m .count)
 
-  pub check-agrees : (s : State) (g : Graph) → Represents Y s g → Agrees Y (step Y Ask.Check s) (stepᵍ Ask.Check g)
-  unfolding step Calls.check stepᵍ
+  pub check-agrees : (s : State) (g : Graph) → Represents Y s g → Agrees Y (step Y Ask.Check s) (graphStep Ask.Check g)
+  unfolding step Calls.check graphStep
   check-agrees s g m = shape-passes Y s g _ _ m (rw (sound-whole Y s (m .ok)) (refl, m))
 
   pub setInteger-agrees : (r : ℕ) (v : ℤ) (s : State) (g : Graph) → Represents Y s g
-      → Agrees Y (step Y (Ask.SetInteger r v) s) (stepᵍ (Ask.SetInteger r v) g)
-  unfolding step Calls.setInteger stepᵍ
+      → Agrees Y (step Y (Ask.SetInteger r v) s) (graphStep (Ask.SetInteger r v) g)
+  unfolding step Calls.setInteger graphStep
   setInteger-agrees r v s g m =
       shape-passes Y s g _ _ m
-      (refuse-agrees Y (noRoot s r) (noRootᵍ g r) Why.Root s g _ _ m (same-roots Y s g r m) (λ a.
+      (refuse-agrees Y (noRoot s r) (graphNoRoot g r) Why.Root s g _ _ m (same-roots Y s g r m) (λ a.
       refuse-agrees Y (not (inRange v)) (not (inRange v)) Why.Range s g _ _ m refl (λ b.
       (refl, root-represents s g m r (tag v) (plain (integer v)) (not-false (inRange v) b, refl)))))
 
-  pub setNull-agrees : (r : ℕ) (s : State) (g : Graph) → Represents Y s g → Agrees Y (step Y (Ask.SetNull r) s) (stepᵍ (Ask.SetNull r) g)
-  unfolding step Calls.setNull stepᵍ
+  pub setNull-agrees : (r : ℕ) (s : State) (g : Graph) → Represents Y s g → Agrees Y (step Y (Ask.SetNull r) s) (graphStep (Ask.SetNull r) g)
+  unfolding step Calls.setNull graphStep
   setNull-agrees r s g m =
       shape-passes Y s g _ _ m
-      (refuse-agrees Y (noRoot s r) (noRootᵍ g r) Why.Root s g _ _ m (same-roots Y s g r m) (λ a.
+      (refuse-agrees Y (noRoot s r) (graphNoRoot g r) Why.Root s g _ _ m (same-roots Y s g r m) (λ a.
       (refl, root-represents s g m r 0 (plain null) (refl, refl))))
 
-  pub two-roots : (s : State) (g : Graph) (a b : ℕ) → Represents Y s g → (noRoot s a || noRoot s b) ≡ (noRootᵍ g a || noRootᵍ g b)
+  pub two-roots : (s : State) (g : Graph) (a b : ℕ) → Represents Y s g → (noRoot s a || noRoot s b) ≡ (graphNoRoot g a || graphNoRoot g b)
   two-roots s g a b m = rw (same-roots Y s g a m, same-roots Y s g b m)
 
-  pub copy-agrees : (p q : ℕ) (s : State) (g : Graph) → Represents Y s g → Agrees Y (step Y (Ask.Copy p q) s) (stepᵍ (Ask.Copy p q) g)
-  unfolding step Calls.copy stepᵍ
+  pub copy-agrees : (p q : ℕ) (s : State) (g : Graph) → Represents Y s g → Agrees Y (step Y (Ask.Copy p q) s) (graphStep (Ask.Copy p q) g)
+  unfolding step Calls.copy graphStep
   copy-agrees p q s g m =
       shape-passes Y s g _ _ m
-      (refuse-agrees Y (noRoot s p || noRoot s q) (noRootᵍ g p || noRootᵍ g q) Why.Root s g _ _ m (two-roots s g p q m) (λ a. (
+      (refuse-agrees Y (noRoot s p || noRoot s q) (graphNoRoot g p || graphNoRoot g q) Why.Root s g _ _ m (two-roots s g p q m) (λ a. (
         refl,
         root-represents s g m q (rootWord s p) (rootValue g p)
             (m .roots p (has-root s g m p (or-none (noRoot s p) (noRoot s q) a .0))),
@@ -140,11 +140,11 @@ module _ (Y : Layout) where
       (λ z. m .apart x y (e .0) (e′ .0) (omega arith))
       (λ z. ap (λ k. address Y (m .pl k)) z))
 
-  pub same-agrees : (p q : ℕ) (s : State) (g : Graph) → Represents Y s g → Agrees Y (step Y (Ask.Same p q) s) (stepᵍ (Ask.Same p q) g)
-  unfolding step Calls.same stepᵍ
+  pub same-agrees : (p q : ℕ) (s : State) (g : Graph) → Represents Y s g → Agrees Y (step Y (Ask.Same p q) s) (graphStep (Ask.Same p q) g)
+  unfolding step Calls.same graphStep
   same-agrees p q s g m =
       shape-passes Y s g _ _ m
-      (refuse-agrees Y (noRoot s p || noRoot s q) (noRootᵍ g p || noRootᵍ g q) Why.Root s g _ _ m (two-roots s g p q m) (λ a.
+      (refuse-agrees Y (noRoot s p || noRoot s q) (graphNoRoot g p || graphNoRoot g q) Why.Root s g _ _ m (two-roots s g p q m) (λ a.
       let b = or-none (noRoot s p) (noRoot s q) a in (
         ap (λ x. cond x Says.Yes Says.No)
             (same-word s g m (rootValue g p) (rootValue g q) (rootWord s p) (rootWord s q)
@@ -155,7 +155,7 @@ module _ (Y : Layout) where
   -- what stands in the heap for an object of the graph
   inspect-object : (s : State) (g : Graph) (m : Represents Y s g) (x : ℕ) (b : Object) → Holds Y (m .ids) (m .pl) (s .heap) b (m .pl x)
       → Agrees Y (says (Says.Object (kind Y (s .heap) (m .pl x)) (fieldCount Y (s .heap) (m .pl x))) s)
-      (byKind b (λ vs. saysᵍ (Says.Object Traced (length vs)) g) (λ ws. saysᵍ (Says.Object Untraced (length ws)) g))
+      (byKind b (λ vs. graphSays (Says.Object Traced (length vs)) g) (λ ws. graphSays (Says.Object Untraced (length ws)) g))
   inspect-object s g m x (traced vs) h = (rw (h .0, h .1), m)
   inspect-object s g m x (untraced ws) h = (rw (h .0, h .1), m)
 
@@ -173,9 +173,9 @@ module _ (Y : Layout) where
       rw (e .1, header-not-odd Y s (m .ok) i hd, header-not-null Y s (m .ok) i hd, header-names Y s (m .ok) i hd, index-address Y i)
       (inspect-object s g m x (nth g x) (m .holds x (e .0)))
 
-  pub inspect-agrees : (r : ℕ) (s : State) (g : Graph) → Represents Y s g → Agrees Y (step Y (Ask.Inspect r) s) (stepᵍ (Ask.Inspect r) g)
-  unfolding step Calls.inspect stepᵍ
+  pub inspect-agrees : (r : ℕ) (s : State) (g : Graph) → Represents Y s g → Agrees Y (step Y (Ask.Inspect r) s) (graphStep (Ask.Inspect r) g)
+  unfolding step Calls.inspect graphStep
   inspect-agrees r s g m =
       shape-passes Y s g _ _ m
-      (refuse-agrees Y (noRoot s r) (noRootᵍ g r) Why.Root s g _ _ m (same-roots Y s g r m) (λ a.
+      (refuse-agrees Y (noRoot s r) (graphNoRoot g r) Why.Root s g _ _ m (same-roots Y s g r m) (λ a.
       inspect-word s g m (rootValue g r) (rootWord s r) (m .roots r (has-root s g m r a))))

@@ -8,8 +8,8 @@ use Rattle.model.specs.declared.Refusal.the-variants as Why
 use Rattle.model.specs.Answers.{number}
 use Rattle.model.specs.Collection.{live}
 use Rattle.model.specs.Demand3 as D3
-use Rattle.model.specs.Graph.{emptyGraph, totalWords, orderᵍ}
-use Rattle.model.specs.GraphCalls.{afterᵍ}
+use Rattle.model.specs.Graph.{emptyGraph, totalWords, graphOrder}
+use Rattle.model.specs.GraphCalls.{graphAfter}
 use Rattle.model.specs.Headers.{Layout, Lawful, tuple}
 use Rattle.model.specs.Sessions.{machine, after}
 use Rattle.model.specs.Words.{halfWords}
@@ -37,14 +37,14 @@ demand3-of Y law = record {
       let d = allocate-room Y k m r (after (machine Y) cs (D3.begun (machine Y) words n q)) (t .0 .ok)
       (omega (arith, t .2, begun-roots Y words S n q v few)) u in
       let w = live-same Y (after (machine Y) cs (D3.begun (machine Y) words n q))
-      (afterᵍ (D3.carriedOut (machine Y) cs (D3.begun (machine Y) words n q)) (emptyGraph n)) (t .0) in
+      (graphAfter (D3.carriedOut (machine Y) cs (D3.begun (machine Y) words n q)) (emptyGraph n)) (t .0) in
       (λ x. let y = d .0 x in omega arith, λ x. d .1 (omega arith));
   listable =
       λ cs n. (
-        orderᵍ (afterᵍ cs (emptyGraph n)) (totalWords (afterᵍ cs (emptyGraph n) .objects)),
-        lists-whole (afterᵍ cs (emptyGraph n)) (session-known cs n),
+        graphOrder (graphAfter cs (emptyGraph n)) (totalWords (graphAfter cs (emptyGraph n) .objects)),
+        lists-whole (graphAfter cs (emptyGraph n)) (session-known cs n),
       );
-  live = λ cs n o l. live-listed (afterᵍ cs (emptyGraph n)) (session-known cs n) o l;
+  live = λ cs n o l. live-listed (graphAfter cs (emptyGraph n)) (session-known cs n) o l;
   keepsSound = step-sound Y law;
   staysSound = λ words S n q cs v few.
       sound-whole Y (after (machine Y) cs (D3.begun (machine Y) words n q))

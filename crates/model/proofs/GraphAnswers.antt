@@ -7,19 +7,19 @@ use Rattle.model.specs.declared.Refusal.the-variants as Why
 use Rattle.model.specs.declared.Answer.the-variants as Says
 use Rattle.model.specs.Demand3 as D3
 use Rattle.model.specs.Graph.{Graph}
-use Rattle.model.specs.GraphCalls.{Outcomeᵍ, stepᵍ}
+use Rattle.model.specs.GraphCalls.{GraphOutcome, graphStep}
 use Rattle.model.proofs.GraphLeaving.{ofGraph, graph-step}
 use Rattle.model.proofs.PlainAnswers.{refused-same, done-plainly}
 use Rattle.model.proofs.Tests.{never}
 
 -- it refuses, if at all, with a refusal that a graph can give
-abbrev pub Mild : Outcomeᵍ → Type 0
+abbrev pub Mild : GraphOutcome → Type 0
 Mild o = (k : Refusal) → o .answer ≡ Says.Refused k → ofGraph k ≡ true
 
 done-mild : (k : Refusal) → Says.Done ≡ Says.Refused k → ofGraph k ≡ true
 done-mild k e = absurd (done-plainly k e)
 
-pub graph-refuses : (c : Call) (g : Graph) → Mild (stepᵍ c g)
+pub graph-refuses : (c : Call) (g : Graph) → Mild (graphStep c g)
 graph-refuses c g = graph-step g Mild (record {
   refused = λ j e k q. rw (← refused-same j k q) e;
   answered = λ a f k e. absurd (f k e);
@@ -31,5 +31,5 @@ graph-refuses c g = graph-step g Mild (record {
   allocated = λ k n r. done-mild;
 }) c
 
-pub graph-room : (c : Call) (g : Graph) → stepᵍ c g .answer ≡ D3.noRoom → ⊥
+pub graph-room : (c : Call) (g : Graph) → graphStep c g .answer ≡ D3.noRoom → ⊥
 graph-room c g e = never (graph-refuses c g Why.Room e) refl

@@ -11,7 +11,7 @@ use Rattle.model.specs.declared.Kind.the-variants.{Traced, Untraced}
 use Rattle.model.specs.declared.Call.{Call}
 use Rattle.model.specs.Demand3 as D3
 use Rattle.model.specs.Graph.{null, Value, plain, object, Object, traced, untraced, Graph, emptyGraph, nth, rootValue}
-use Rattle.model.specs.GraphCalls.{withRootᵍ, withObject, blankObject, grown, stepᵍ, afterᵍ}
+use Rattle.model.specs.GraphCalls.{graphWithRoot, withObject, blankObject, grown, graphStep, graphAfter}
 use Rattle.model.proofs.GraphLeaving.{graph-step}
 use Rattle.model.proofs.Lists.{getD-same}
 use Rattle.model.proofs.Tests.{decide, same?}
@@ -53,7 +53,7 @@ blank-under : (n m : ℕ) (k : Kind) → UnderAll n (blankObject k m)
 blank-under n m Traced = λ f. rw (getD-same {A = Value} m f (plain null)) tt
 blank-under n m Untraced = tt
 
-root-closed : (g : Graph) (r : ℕ) (v : Value) → Closed g → Under (length (g .objects)) v → Closed (withRootᵍ g r v)
+root-closed : (g : Graph) (r : ℕ) (v : Value) → Closed g → Under (length (g .objects)) v → Closed (graphWithRoot g r v)
 root-closed g r v c u =
     record { roots = λ q. set-at (Under (length (g .objects))) (g .roots) r q v (plain null) u (c .roots); fields = c .fields }
 
@@ -98,7 +98,7 @@ traced-under : (g : Graph) (i : ℕ) (vs : List Value) → Closed g → nth g i 
     → Under (length (g .objects)) (getD vs f (plain null))
 traced-under g i vs c e = subst (UnderAll (length (g .objects))) e (c .fields i)
 
-step-closed : (c : Call) (g : Graph) → Closed g → Closed (stepᵍ c g .left)
+step-closed : (c : Call) (g : Graph) → Closed g → Closed (graphStep c g .left)
 step-closed c g h = graph-step g (λ o. Closed (o .left)) (record {
   refused = λ k e. h;
   answered = λ a f. h;
@@ -112,18 +112,18 @@ step-closed c g h = graph-step g (λ o. Closed (o .left)) (record {
   allocated = λ k n r. grown-closed g k n r h;
 }) c
 
-pub after-closed : (cs : List Call) (g : Graph) → Closed g → Closed (afterᵍ cs g)
-unfolding afterᵍ
+pub after-closed : (cs : List Call) (g : Graph) → Closed g → Closed (graphAfter cs g)
+unfolding graphAfter
 after-closed [] g h = h
-after-closed (c ∷ cs) g h = after-closed cs (stepᵍ c g .left) (step-closed c g h)
+after-closed (c ∷ cs) g h = after-closed cs (graphStep c g .left) (step-closed c g h)
 
 pub empty-closed : (n : ℕ) → Closed (emptyGraph n)
 empty-closed n = record { roots = λ r. rw (getD-same {A = Value} n r (plain null)) tt; fields = λ i f. tt }
 
 -- so what is reachable is one of its objects
-reach-under : (g : Graph) → Closed g → (i : ℕ) → D3.Reachᵍ g i → i < length (g .objects)
+reach-under : (g : Graph) → Closed g → (i : ℕ) → D3.Reachable g i → i < length (g .objects)
 reach-under g c j (D3.fromRoot r {i} e) = subst (Under (length (g .objects))) e (c .roots r)
 reach-under g c k (D3.fromField f {i} {j} vs r e v) = subst (Under (length (g .objects))) v (traced-under g i vs c e f)
 
-pub session-known : (cs : List Call) (n i : ℕ) → D3.Reachᵍ (afterᵍ cs (emptyGraph n)) i → i < length (afterᵍ cs (emptyGraph n) .objects)
-session-known cs n i r = reach-under (afterᵍ cs (emptyGraph n)) (after-closed cs (emptyGraph n) (empty-closed n)) i r
+pub session-known : (cs : List Call) (n i : ℕ) → D3.Reachable (graphAfter cs (emptyGraph n)) i → i < length (graphAfter cs (emptyGraph n) .objects)
+session-known cs n i r = reach-under (graphAfter cs (emptyGraph n)) (after-closed cs (emptyGraph n) (empty-closed n)) i r

@@ -13,8 +13,8 @@ use Rattle.model.specs.declared.Call.{Call}
 use Rattle.model.specs.declared.Refusal.the-variants as Why
 use Rattle.model.specs.declared.Answer.the-variants as Says
 use Rattle.model.specs.declared.Call.the-variants as Ask
-use Rattle.model.specs.Graph.{Plain, integer, null, Value, plain, object, Object, traced, untraced, Graph, nth, rootValue, liveᵍ}
-use Rattle.model.specs.GraphCalls.{Outcomeᵍ, saysᵍ, refuseᵍ, withRootᵍ, withObject, grown, sameValue, byKind, onObject, plainAnswer, inspected, stepᵍ}
+use Rattle.model.specs.Graph.{Plain, integer, null, Value, plain, object, Object, traced, untraced, Graph, nth, rootValue, graphLive}
+use Rattle.model.specs.GraphCalls.{GraphOutcome, graphSays, graphRefuse, graphWithRoot, withObject, grown, sameValue, byKind, onObject, plainAnswer, inspected, graphStep}
 use Rattle.model.proofs.PlainAnswers.{Plainly, plainly, either-plainly, object-plainly, plain-plainly}
 use Rattle.model.proofs.Tests.{cond-holds}
 
@@ -31,31 +31,31 @@ ofGraph Why.Damaged = false
 ofGraph Why.Room = false
 
 -- the answers that change nothing, and the changes, each with what the call knows of its object
-pub record Keptᵍ (g : Graph) (P : Outcomeᵍ → Type 0) : Type 0 where
-  pub refused : (k : Refusal) → ofGraph k ≡ true → P (saysᵍ (Says.Refused k) g)
-  pub answered : (a : Answer) → Plainly a → P (saysᵍ a g)
-  pub set-plain : (r : ℕ) (p : Plain) → P (saysᵍ Says.Done (withRootᵍ g r (plain p)))
-  pub copied : (from to : ℕ) → P (saysᵍ Says.Done (withRootᵍ g to (rootValue g from)))
-  pub loaded : (i f to : ℕ) (vs : List Value) → nth g i ≡ traced vs → P (saysᵍ Says.Done (withRootᵍ g to (getD vs f (plain null))))
+pub record GraphKept (g : Graph) (P : GraphOutcome → Type 0) : Type 0 where
+  pub refused : (k : Refusal) → ofGraph k ≡ true → P (graphSays (Says.Refused k) g)
+  pub answered : (a : Answer) → Plainly a → P (graphSays a g)
+  pub set-plain : (r : ℕ) (p : Plain) → P (graphSays Says.Done (graphWithRoot g r (plain p)))
+  pub copied : (from to : ℕ) → P (graphSays Says.Done (graphWithRoot g to (rootValue g from)))
+  pub loaded : (i f to : ℕ) (vs : List Value) → nth g i ≡ traced vs → P (graphSays Says.Done (graphWithRoot g to (getD vs f (plain null))))
   pub stored : (i f from : ℕ) (vs : List Value) → nth g i ≡ traced vs
-      → P (saysᵍ Says.Done (withObject g i (traced (set vs f (rootValue g from)))))
-  pub written : (i f x : ℕ) (ws : List ℕ) → P (saysᵍ Says.Done (withObject g i (untraced (set ws f x))))
-  pub allocated : (k : Kind) (n r : ℕ) → P (saysᵍ Says.Done (grown k n r g))
+      → P (graphSays Says.Done (withObject g i (traced (set vs f (rootValue g from)))))
+  pub written : (i f x : ℕ) (ws : List ℕ) → P (graphSays Says.Done (withObject g i (untraced (set ws f x))))
+  pub allocated : (k : Kind) (n r : ℕ) → P (graphSays Says.Done (grown k n r g))
 
-data Holds (P : Outcomeᵍ → Type 0) : Outcomeᵍ → Type 0 where
-  holds : {o : Outcomeᵍ} → P o → Holds P o
+data Holds (P : GraphOutcome → Type 0) : GraphOutcome → Type 0 where
+  holds : {o : GraphOutcome} → P o → Holds P o
 
-module _ (g : Graph) (P : Outcomeᵍ → Type 0) (h : Keptᵍ g P) where
-  after : (b : Bool) (k : Refusal) (o : Outcomeᵍ) → ofGraph k ≡ true → Holds P o → Holds P (refuseᵍ b k g o)
-  unfolding refuseᵍ
+module _ (g : Graph) (P : GraphOutcome → Type 0) (h : GraphKept g P) where
+  after : (b : Bool) (k : Refusal) (o : GraphOutcome) → ofGraph k ≡ true → Holds P o → Holds P (graphRefuse b k g o)
+  unfolding graphRefuse
   after b k o e p = cond-holds (Holds P) b _ o (λ t. holds (h .refused k e)) (λ t. p)
 
-  by-kind : (b : Object) (t : List Value → Outcomeᵍ) (u : List ℕ → Outcomeᵍ)
+  by-kind : (b : Object) (t : List Value → GraphOutcome) (u : List ℕ → GraphOutcome)
       → ((vs : List Value) → b ≡ traced vs → Holds P (t vs)) → ((ws : List ℕ) → Holds P (u ws)) → Holds P (byKind b t u)
   by-kind (traced vs) t u f w = f vs refl
   by-kind (untraced ws) t u f w = w ws
 
-  on-object : (v : Value) (t : ℕ → List Value → Outcomeᵍ) (u : ℕ → List ℕ → Outcomeᵍ)
+  on-object : (v : Value) (t : ℕ → List Value → GraphOutcome) (u : ℕ → List ℕ → GraphOutcome)
       → ((i : ℕ) (vs : List Value) → nth g i ≡ traced vs → Holds P (t i vs)) → ((i : ℕ) (ws : List ℕ) → Holds P (u i ws))
       → Holds P (onObject g v t u)
   unfolding onObject
@@ -69,9 +69,9 @@ module _ (g : Graph) (P : Outcomeᵍ → Type 0) (h : Keptᵍ g P) where
       by-kind (nth g i) _ _ (λ vs e. holds (h .answered _ (object-plainly Traced (length vs))))
       (λ ws. holds (h .answered _ (object-plainly Untraced (length ws))))
 
-  step-holds : (c : Call) → Holds P (stepᵍ c g)
-  unfolding stepᵍ
-  step-holds Ask.Collect = holds (h .answered _ (plainly (Says.Live (liveᵍ g)) refl))
+  step-holds : (c : Call) → Holds P (graphStep c g)
+  unfolding graphStep
+  step-holds Ask.Collect = holds (h .answered _ (plainly (Says.Live (graphLive g)) refl))
   step-holds Ask.Check = holds (h .answered _ (plainly Says.Sound refl))
   step-holds (Ask.Allocate k n r) = after _ Why.Root _ refl (after _ Why.Count _ refl (holds (h .allocated k n r)))
   step-holds (Ask.SetInteger r v) = after _ Why.Root _ refl (after _ Why.Range _ refl (holds (h .set-plain r (integer v))))
@@ -97,8 +97,8 @@ module _ (g : Graph) (P : Outcomeᵍ → Type 0) (h : Keptᵍ g P) where
       (holds (h .answered _ (either-plainly (sameValue (rootValue g r) (rootValue g q)) Says.Yes Says.No refl refl)))
   step-holds (Ask.Inspect r) = after _ Why.Root _ refl (inspects (rootValue g r))
 
-  pub graph-step : (c : Call) → P (stepᵍ c g)
-  graph-step c = go (stepᵍ c g) (step-holds c)
+  pub graph-step : (c : Call) → P (graphStep c g)
+  graph-step c = go (graphStep c g) (step-holds c)
     where
-      go : (o : Outcomeᵍ) → Holds P o → P o
+      go : (o : GraphOutcome) → Holds P o → P o
       go o (holds p) = p

@@ -7,7 +7,7 @@ use mathlib.Core.Option.{Option, none, some}
 use lib.ListN.{length, getD, replicate, length-append, length-map, length-replicate, List·getD-map}
 use Rattle.model.specs.Demand3 as D3
 use Rattle.model.specs.Discovery.{packed}
-use Rattle.model.specs.Graph.{null, Value, plain, object, Object, traced, untraced, Graph, nth, rootValue, valueLeads, objectCells, graphCells, itself, totalWords, orderᵍ, liveᵍ}
+use Rattle.model.specs.Graph.{null, Value, plain, object, Object, traced, untraced, Graph, nth, rootValue, valueLeads, objectCells, graphCells, itself, totalWords, graphOrder, graphLive}
 use Rattle.model.proofs.Discovery.{Reach, root, cell, found-distinct, found-reach, reach-found}
 use Rattle.model.proofs.GraphWords.{below, in-below, total-packed}
 use Rattle.model.proofs.Lists.{getD-same}
@@ -28,29 +28,29 @@ cell-value (traced vs) (suc f) j e =
 cell-value (untraced ws) zero j e = absurd (no-some j e)
 cell-value (untraced ws) (suc f) j e = absurd (no-some j (sym (getD-same {A = Option ℕ} (length ws) f none) ∙ e))
 
-cells-size : (b : Object) → length (objectCells b) ≡ D3.sizeᵍ b
+cells-size : (b : Object) → length (objectCells b) ≡ D3.graphSize b
 cells-size (traced vs) = let z = length-map vs valueLeads in omega arith
 cells-size (untraced ws) =
     let z : length {A = Option ℕ} (replicate (length ws) none) ≡ length ws = length-replicate (length ws) none in
     omega arith
 
 module _ (g : Graph) where
-  abbrev Reachedᵍ : ℕ → Type 0
-  Reachedᵍ = Reach (graphCells g) none itself (map valueLeads (g .roots))
+  abbrev ReachedByCells : ℕ → Type 0
+  ReachedByCells = Reach (graphCells g) none itself (map valueLeads (g .roots))
 
-  reached-reach : (i : ℕ) → Reachedᵍ i → D3.Reachᵍ g i
+  reached-reach : (i : ℕ) → ReachedByCells i → D3.Reachable g i
   reached-reach i (root k e) = D3.fromRoot k (lead-value (rootValue g k) i (sym (List·getD-map valueLeads (g .roots) k (plain null)) ∙ e))
   reached-reach j (cell k {i} r e) =
       let c = cell-value (nth g i) k j e in
       D3.fromField (c .2 .0) (c .0) (reached-reach i r) (c .1) (c .2 .1)
 
-  reach-reached : (i : ℕ) → D3.Reachᵍ g i → Reachedᵍ i
+  reach-reached : (i : ℕ) → D3.Reachable g i → ReachedByCells i
   reach-reached j (D3.fromRoot r {i} e) = root r (List·getD-map valueLeads (g .roots) r (plain null) ∙ ap valueLeads e)
   reach-reached k (D3.fromField f {i} {j} vs r e v) =
       cell (suc f) (reach-reached i r)
       (ap (λ b. getD (objectCells b) (suc f) none) e ∙ List·getD-map valueLeads vs f (plain null) ∙ ap valueLeads v)
 
-  words-sizes : (o : List ℕ) → length (packed (graphCells g) o) ≡ D3.sizesᵍ g o
+  words-sizes : (o : List ℕ) → length (packed (graphCells g) o) ≡ D3.graphSizes g o
   unfolding packed
   words-sizes [] = refl
   words-sizes (i ∷ o) =
@@ -60,17 +60,17 @@ module _ (g : Graph) where
       omega arith
 
   -- where what is reachable is one of the graph's objects
-  module _ (known : (i : ℕ) → D3.Reachᵍ g i → i < length (g .objects)) where
+  module _ (known : (i : ℕ) → D3.Reachable g i → i < length (g .objects)) where
     abbrev whole : List ℕ
-    whole = orderᵍ g (totalWords (g .objects))
+    whole = graphOrder g (totalWords (g .objects))
 
-    found-listed : (i : ℕ) → In i whole → D3.Reachᵍ g i
-    unfolding orderᵍ
+    found-listed : (i : ℕ) → In i whole → D3.Reachable g i
+    unfolding graphOrder
     found-listed i m =
         reached-reach i (found-reach (graphCells g) none itself (map valueLeads (g .roots)) refl (totalWords (g .objects)) i m)
 
     whole-distinct : Distinct whole
-    unfolding orderᵍ
+    unfolding graphOrder
     whole-distinct = found-distinct (graphCells g) none itself (map valueLeads (g .roots)) (totalWords (g .objects))
 
     whole-fits : length (packed (graphCells g) whole) ≤ totalWords (g .objects)
@@ -79,8 +79,8 @@ module _ (g : Graph) where
         in-below x (length (g .objects)) (known x (found-listed x i))) in
         omega (arith, total-packed (g .objects))
 
-    listed-found : (i : ℕ) → D3.Reachᵍ g i → In i whole
-    unfolding orderᵍ
+    listed-found : (i : ℕ) → D3.Reachable g i → In i whole
+    unfolding graphOrder
     listed-found i r =
         reach-found (graphCells g) none itself (map valueLeads (g .roots)) refl (totalWords (g .objects)) whole-fits i
         (reach-reached i r)
@@ -92,8 +92,8 @@ module _ (g : Graph) where
       reached = λ i r. in-mem i whole (listed-found i r);
     }
 
-    pub live-listed : (o : List ℕ) → D3.Lists g o → liveᵍ g ≡ D3.sizesᵍ g o
-    unfolding liveᵍ
+    pub live-listed : (o : List ℕ) → D3.Lists g o → graphLive g ≡ D3.graphSizes g o
+    unfolding graphLive
     live-listed o l =
         let a = packed-within (graphCells g) whole o whole-distinct (λ i m. mem-in i o (l .reached i (found-listed i m))) in
         let b = packed-within (graphCells g) o whole (once-distinct o (l .once)) (λ i m. listed-found i (l .listed i (in-mem i o m))) in

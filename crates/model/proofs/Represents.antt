@@ -13,7 +13,7 @@ use Rattle.model.specs.declared.Refusal.the-variants as Why
 use Rattle.model.specs.Answers.{Outcome, refuse}
 use Rattle.model.specs.Changes.{noRoot, rootWord}
 use Rattle.model.specs.Graph.{Plain, integer, null, Value, plain, object, Object, traced, untraced, Graph, nth, rootValue}
-use Rattle.model.specs.GraphCalls.{Outcomeᵍ, refuseᵍ, noRootᵍ}
+use Rattle.model.specs.GraphCalls.{GraphOutcome, graphRefuse, graphNoRoot}
 use Rattle.model.specs.Headers.{Layout}
 use Rattle.model.specs.Objects.{address, kind, fieldCount, size, names}
 use Rattle.model.specs.Shape.{badShape}
@@ -69,24 +69,24 @@ module _ (Y : Layout) where
     pub holds : (x : ℕ) → In x ids → Holds ids pl (s .heap) (nth g x) (pl x)
 
   -- a call's outcome in both
-  abbrev pub Agrees : Outcome → Outcomeᵍ → Type 0
+  abbrev pub Agrees : Outcome → GraphOutcome → Type 0
   Agrees o q = (o .answer ≡ q .answer) × Represents (o .left) (q .left)
 
-  pub refuse-agrees : (b c : Bool) (k : Refusal) (s : State) (g : Graph) (o : Outcome) (q : Outcomeᵍ) → Represents s g → b ≡ c
-      → (b ≡ false → Agrees o q) → Agrees (refuse b k s o) (refuseᵍ c k g q)
-  unfolding refuse refuseᵍ
+  pub refuse-agrees : (b c : Bool) (k : Refusal) (s : State) (g : Graph) (o : Outcome) (q : GraphOutcome) → Represents s g → b ≡ c
+      → (b ≡ false → Agrees o q) → Agrees (refuse b k s o) (graphRefuse c k g q)
+  unfolding refuse graphRefuse
   refuse-agrees true true k s g o q m e f = (refl, m)
   refuse-agrees true false k s g o q m e f = never refl e
   refuse-agrees false true k s g o q m e f = never e refl
   refuse-agrees false false k s g o q m e f = f refl
 
   -- a heap that stands for a graph has its shape
-  pub shape-passes : (s : State) (g : Graph) (o : Outcome) (q : Outcomeᵍ) → Represents s g → Agrees o q
+  pub shape-passes : (s : State) (g : Graph) (o : Outcome) (q : GraphOutcome) → Represents s g → Agrees o q
       → Agrees (refuse (badShape s) Why.Shape s o) q
   unfolding refuse
   shape-passes s g o q m a = rw (unshaped s (m .ok .shape)) a
 
-  pub same-roots : (s : State) (g : Graph) (r : ℕ) → Represents s g → noRoot s r ≡ noRootᵍ g r
+  pub same-roots : (s : State) (g : Graph) (r : ℕ) → Represents s g → noRoot s r ≡ graphNoRoot g r
   same-roots s g r m = ap (λ x. leb x r) (m .count)
 
   -- a value's word is a value of the heap

@@ -23,7 +23,7 @@ use Rattle.model.specs.Demand1 as D1
 use Rattle.model.specs.Demand2 as D
 use Rattle.model.specs.Demand3 as D3
 use Rattle.model.specs.Discovery.{mem, visit, visits, packed, wordsBefore, found}
-use Rattle.model.specs.GraphCalls.{refuseᵍ, inspected, stepᵍ, answersᵍ}
+use Rattle.model.specs.GraphCalls.{graphRefuse, inspected, graphStep, graphAnswers}
 use Rattle.model.specs.Headers.{tuple}
 use Rattle.model.specs.Refusals as Row
 use Rattle.model.specs.Sessions.{step, Machine, answers}
@@ -145,7 +145,7 @@ done-null : Says.Done ≡ Says.Null → ⊥
 done-null e = let z : _≡_ {A = ℕ} 0 1 = cc in omega arith
 
 pub constant-breaks-3 : D3.Demand3 tuple constant → ⊥
-unfolding answers answersᵍ stepᵍ refuseᵍ inspected
+unfolding answers graphAnswers graphStep graphRefuse inspected
 constant-breaks-3 d =
     done-null (ap (λ l. getD l 0 Says.Done)
     (d .sameAnswers (0 ∷ 0 ∷ 0 ∷ []) (0 ∷ 0 ∷ 0 ∷ []) 1 1 1 1 start start (Ask.Inspect 0 ∷ []) ok ok (omega arith)

@@ -17,7 +17,7 @@ use Rattle.model.specs.declared.Call.the-variants as Ask
 use Rattle.model.specs.Answers.{number}
 use Rattle.model.specs.Demand3 as D3
 use Rattle.model.specs.Graph.{Object, Graph}
-use Rattle.model.specs.GraphCalls.{stepᵍ, answersᵍ, afterᵍ}
+use Rattle.model.specs.GraphCalls.{graphStep, graphAnswers, graphAfter}
 use Rattle.model.specs.Headers.{Layout, Lawful}
 use Rattle.model.specs.Objects.{kind}
 use Rattle.model.specs.Sessions.{step, machine, answers, after}
@@ -65,7 +65,7 @@ is-no-room (Says.Refused k) e = ap Says.Refused (refusal-room k e)
 
 module _ (Y : Layout) (law : Lawful Y) where
   -- every call: "no room", or heap and graph agree
-  pub step-goes : (c : Call) (s : State) (g : Graph) → Represents Y s g → Full Y c s g (step Y c s) ⊎ Agrees Y (step Y c s) (stepᵍ c g)
+  pub step-goes : (c : Call) (s : State) (g : Graph) → Represents Y s g → Full Y c s g (step Y c s) ⊎ Agrees Y (step Y c s) (graphStep c g)
   step-goes Ask.Collect s g m = inr (collect-agrees Y s g m)
   step-goes Ask.Check s g m = inr (check-agrees Y s g m)
   step-goes (Ask.Allocate k n r) s g m = allocate-agrees Y law k n r s g m
@@ -81,7 +81,7 @@ module _ (Y : Layout) (law : Lawful Y) where
 
   -- a call that is not answered "no room" agrees with the graph
   pub step-agrees : (c : Call) (s : State) (g : Graph) → Represents Y s g → (step Y c s .answer ≡ D3.noRoom → ⊥)
-      → Agrees Y (step Y c s) (stepᵍ c g)
+      → Agrees Y (step Y c s) (graphStep c g)
   step-agrees c s g m f = ⊎-elim (λ (u : Full Y c s g (step Y c s)). absurd (f (u .answers))) (λ a. a) (step-goes c s g m)
 
   -- "no room" in the larger of two heaps for one graph is "no room" in the smaller
@@ -95,7 +95,7 @@ module _ (Y : Layout) (law : Lawful Y) where
       ap (λ z. step Y z s .answer) (u .is)
       ∙ allocate-room Y (u .kind) (u .fields) (u .to) s (m .ok) (omega (arith, u .named, m .count, m⁺ .count)) (u .small) .1
       (omega (arith, live-same Y s g m, live-same Y s⁺ g m⁺)))
-      (λ (a : Agrees Y (step Y c s⁺) (stepᵍ c g)). absurd (graph-room c g (sym (a .0) ∙ e)))
+      (λ (a : Agrees Y (step Y c s⁺) (graphStep c g)). absurd (graph-room c g (sym (a .0) ∙ e)))
       (step-goes c s⁺ g m⁺)
 
   step-half : (c : Call) (s : State) → halfWords (step Y c s .left .heap) ≡ halfWords (s .heap)
@@ -106,23 +106,23 @@ module _ (Y : Layout) (law : Lawful Y) where
       → halfWords (s .heap) ≤ halfWords (s⁺ .heap)
       → (List·Memᴰ D3.noRoom (take k (answers (machine Y) cs s)) → ⊥)
       → (take k (answers (machine Y) cs s) ≡ take k (answers (machine Y) cs s⁺))
-      × (take k (answers (machine Y) cs s) ≡ take k (answersᵍ cs g))
-  unfolding answers answersᵍ
+      × (take k (answers (machine Y) cs s) ≡ take k (graphAnswers cs g))
+  unfolding answers graphAnswers
   runs [] k s s⁺ g m m⁺ l f = (refl, refl)
   runs (c ∷ cs) zero s s⁺ g m m⁺ l f = (refl, refl)
   runs (c ∷ cs) (suc k) s s⁺ g m m⁺ l f =
       let a = step-agrees c s g m (λ e. f (List·Memᴰ·head (sym e))) in
       let b = step-agrees c s⁺ g m⁺ (λ e. f (List·Memᴰ·head (sym (room-smaller c s s⁺ g m m⁺ l e)))) in
-      let ih = runs cs k (step Y c s .left) (step Y c s⁺ .left) (stepᵍ c g .left) (a .1) (b .1)
+      let ih = runs cs k (step Y c s .left) (step Y c s⁺ .left) (graphStep c g .left) (a .1) (b .1)
       (omega (arith, step-half c s, step-half c s⁺)) (λ x. f (List·Memᴰ·tail x)) in
       (cons-same (a .0 ∙ sym (b .0)) (ih .0), cons-same (a .0) (ih .1))
 
   -- after any list of calls the heap stands for the graph of those that were carried out
   pub after-represents : (cs : List Call) (s : State) (g : Graph) → Represents Y s g
-      → Represents Y (after (machine Y) cs s) (afterᵍ (D3.carriedOut (machine Y) cs s) g)
+      → Represents Y (after (machine Y) cs s) (graphAfter (D3.carriedOut (machine Y) cs s) g)
       × (halfWords (after (machine Y) cs s .heap) ≡ halfWords (s .heap))
       × (length (after (machine Y) cs s .roots) ≡ length (s .roots))
-  unfolding after afterᵍ D3.carriedOut
+  unfolding after graphAfter D3.carriedOut
   after-represents [] s g m = (m, refl, refl)
   after-represents (c ∷ cs) s g m =
       let t = step-half c s in
@@ -133,7 +133,7 @@ module _ (Y : Layout) (law : Lawful Y) where
       rw e (ih .0, ih .1 ∙ t, ih .2 ∙ q))
       (λ (e : D3.isNoRoom (step Y c s .answer) ≡ false).
       let a = step-agrees c s g m (λ z. never (ap D3.isNoRoom z) e) in
-      let ih = after-represents cs (step Y c s .left) (stepᵍ c g .left) (a .1) in
+      let ih = after-represents cs (step Y c s .left) (graphStep c g .left) (a .1) in
       rw e (ih .0, ih .1 ∙ t, ih .2 ∙ q))
       (by-test (D3.isNoRoom (step Y c s .answer)))
     where
@@ -141,7 +141,7 @@ module _ (Y : Layout) (law : Lawful Y) where
           → Represents Y (step Y c s .left) g
       full-stands c s g m e =
           ⊎-elim (λ (u : Full Y c s g (step Y c s)). u .stands)
-          (λ (a : Agrees Y (step Y c s) (stepᵍ c g)). absurd (graph-room c g (sym (a .0) ∙ e)))
+          (λ (a : Agrees Y (step Y c s) (graphStep c g)). absurd (graph-room c g (sym (a .0) ∙ e)))
           (step-goes c s g m)
 
   -- and its answers are the graph's or "no room": none is SHAPE or DAMAGED
@@ -157,10 +157,10 @@ module _ (Y : Layout) (law : Lawful Y) where
       (λ (y : List·Memᴰ (Says.Refused k) (answers (machine Y) cs (step Y c s .left))).
       session-refuses cs (step Y c s .left) g (u .stands) k n o y)
       (List·Memᴰ·cases-cons x))
-      (λ (a : Agrees Y (step Y c s) (stepᵍ c g)).
+      (λ (a : Agrees Y (step Y c s) (graphStep c g)).
       ⊎-elim
       (λ (e : Says.Refused k ≡ step Y c s .answer). never (graph-refuses c g k (sym (e ∙ a .0))) o)
       (λ (y : List·Memᴰ (Says.Refused k) (answers (machine Y) cs (step Y c s .left))).
-      session-refuses cs (step Y c s .left) (stepᵍ c g .left) (a .1) k n o y)
+      session-refuses cs (step Y c s .left) (graphStep c g .left) (a .1) k n o y)
       (List·Memᴰ·cases-cons x))
       (step-goes c s g m)

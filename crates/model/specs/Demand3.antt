@@ -20,8 +20,8 @@ use Rattle.model.specs.Headers.{Layout}
 use Rattle.model.specs.Soundness.{sound}
 use Rattle.model.specs.Answers.{number, told}
 use Rattle.model.specs.Sessions.{Machine, answers, after}
-use Rattle.model.specs.Graph.{Value, plain, null, object, Object, traced, untraced, Graph, emptyGraph, nth, rootValue, liveᵍ}
-use Rattle.model.specs.GraphCalls.{answersᵍ, afterᵍ}
+use Rattle.model.specs.Graph.{Value, plain, null, object, Object, traced, untraced, Graph, emptyGraph, nth, rootValue, graphLive}
+use Rattle.model.specs.GraphCalls.{graphAnswers, graphAfter}
 use Rattle.model.specs.Demand2.{EachOnce}
 
 -- ---- a session
@@ -56,24 +56,24 @@ carriedOut M (c ∷ cs) s =
 -- ---- the graph's live words
 
 -- an object of the graph is reachable
-pub data Reachᵍ (g : Graph) : ℕ → Type 0 where
-  fromRoot : (r : ℕ) {i : ℕ} → rootValue g r ≡ object i → Reachᵍ g i
-  fromField : (f : ℕ) {i j : ℕ} (vs : List Value) → Reachᵍ g i → nth g i ≡ traced vs → getD vs f (plain null) ≡ object j → Reachᵍ g j
+pub data Reachable (g : Graph) : ℕ → Type 0 where
+  fromRoot : (r : ℕ) {i : ℕ} → rootValue g r ≡ object i → Reachable g i
+  fromField : (f : ℕ) {i j : ℕ} (vs : List Value) → Reachable g i → nth g i ≡ traced vs → getD vs f (plain null) ≡ object j → Reachable g j
 
 -- n + 1, and its sum
-abbrev pub sizeᵍ : Object → ℕ
-sizeᵍ (traced vs) = length vs + 1
-sizeᵍ (untraced ws) = length ws + 1
+abbrev pub graphSize : Object → ℕ
+graphSize (traced vs) = length vs + 1
+graphSize (untraced ws) = length ws + 1
 
-abbrev pub sizesᵍ : Graph → List ℕ → ℕ
-sizesᵍ g [] = 0
-sizesᵍ g (i ∷ o) = sizeᵍ (nth g i) + sizesᵍ g o
+abbrev pub graphSizes : Graph → List ℕ → ℕ
+graphSizes g [] = 0
+graphSizes g (i ∷ o) = graphSize (nth g i) + graphSizes g o
 
 -- a list of exactly the reachable objects, each once
 pub record Lists (g : Graph) (o : List ℕ) : Type 0 where
   pub once : EachOnce o
-  pub listed : (i : ℕ) → List·Memᴰ i o → Reachᵍ g i
-  pub reached : (i : ℕ) → Reachᵍ g i → List·Memᴰ i o
+  pub listed : (i : ℕ) → List·Memᴰ i o → Reachable g i
+  pub reached : (i : ℕ) → Reachable g i → List·Memᴰ i o
 
 -- ---- the demand
 
@@ -82,17 +82,17 @@ pub record Demand3 (Y : Layout) (M : Machine) : Type 0 where
   pub sameAnswers : (small large : List ℕ) (S S⁺ n k : ℕ) (q q⁺ : Record) (cs : List Call) → Halves small S → Halves large S⁺ → S ≤ S⁺ → n ≤ maxRoots
       → (List·Memᴰ noRoom (take k (answers M cs (begun M small n q))) → ⊥)
       → (take k (answers M cs (begun M small n q)) ≡ take k (answers M cs (begun M large n q⁺)))
-      × (take k (answers M cs (begun M small n q)) ≡ take k (answersᵍ cs (emptyGraph n)))
+      × (take k (answers M cs (begun M small n q)) ≡ take k (graphAnswers cs (emptyGraph n)))
   -- after any list of calls, "no room" exactly when the graph's live words and the words needed exceed the half; the graph is that
   -- of the calls carried out
   pub room : (words : List ℕ) (S n : ℕ) (q : Record) (cs : List Call) (k : Kind) (m r : ℕ) → Halves words S → n ≤ maxRoots → r < n → m ≤ maxFields
       → (M .step (Ask.Allocate k m r) (after M cs (begun M words n q)) .answer ≡ noRoom)
-      ↔ (S < liveᵍ (afterᵍ (carriedOut M cs (begun M words n q)) (emptyGraph n)) + (m + 1))
+      ↔ (S < graphLive (graphAfter (carriedOut M cs (begun M words n q)) (emptyGraph n)) + (m + 1))
   -- live words are the sum of n + 1 over the reachable objects of the graph, after any list of calls: some list names each of
   -- them once, and every such list has that sum
-  pub listable : (cs : List Call) (n : ℕ) → (o : List ℕ) × Lists (afterᵍ cs (emptyGraph n)) o
-  pub live : (cs : List Call) (n : ℕ) (o : List ℕ) → Lists (afterᵍ cs (emptyGraph n)) o
-      → liveᵍ (afterᵍ cs (emptyGraph n)) ≡ sizesᵍ (afterᵍ cs (emptyGraph n)) o
+  pub listable : (cs : List Call) (n : ℕ) → (o : List ℕ) × Lists (graphAfter cs (emptyGraph n)) o
+  pub live : (cs : List Call) (n : ℕ) (o : List ℕ) → Lists (graphAfter cs (emptyGraph n)) o
+      → graphLive (graphAfter cs (emptyGraph n)) ≡ graphSizes (graphAfter cs (emptyGraph n)) o
   -- no session call leaves an unsound heap of a sound one; every heap of a session is sound
   pub keepsSound : (s : State) (c : Call) → sound Y s ≡ true → sound Y (M .step c s .left) ≡ true
   pub staysSound : (words : List ℕ) (S n : ℕ) (q : Record) (cs : List Call) → Halves words S → n ≤ maxRoots → sound Y (after M cs (begun M words n q)) ≡ true

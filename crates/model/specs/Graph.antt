@@ -56,9 +56,9 @@ totalWords [] = 0
 totalWords (b ∷ bs) = length (objectCells b) + totalWords bs
 
 -- the objects met, roots by rising number, then p words
-unfoldable pub orderᵍ : Graph → ℕ → List ℕ
-orderᵍ g p = found (graphCells g) none itself (map valueLeads (g .roots)) p
+unfoldable pub graphOrder : Graph → ℕ → List ℕ
+graphOrder g p = found (graphCells g) none itself (map valueLeads (g .roots)) p
 
 -- the words of the reachable objects
-unfoldable pub liveᵍ : Graph → ℕ
-liveᵍ g = length (packed (graphCells g) (orderᵍ g (totalWords (g .objects))))
+unfoldable pub graphLive : Graph → ℕ
+graphLive g = length (packed (graphCells g) (graphOrder g (totalWords (g .objects))))
