@@ -27,7 +27,8 @@ use Rattle.crossing.proofs.ShapeFirst.{nowhere-bad, shape-first, window
 use Rattle.crossing.proofs.FreeIndexes.{step-narrow, window-narrow}
 
 -- the call that was made, of the record that was taken
-made : {H′ R′ : List ℕ} {q : Record} {o : Answered} (H R : List ℕ) (c : CRecord) (k : Call) → q ≡ taken c → outcome o H′ R′ ≡ step tuple k (lent H R q)
+made : {H′ R′ : List ℕ} {q : Record} {o : Answered} (H R : List ℕ) (c : CRecord) (k : Call)
+    → q ≡ taken c → outcome o H′ R′ ≡ step tuple k (lent H R q)
     → outcome o H′ R′ ≡ step tuple k (lent H R (taken c))
 made H R c k e f = f ∙ ap (λ q. step tuple k (lent H R q)) e
 
@@ -36,12 +37,17 @@ module _ {T : Type 0} (returns : Told → CRecord → T) (c : CRecord) where
   abbrev sent : Outcome → Given T
   sent o = given (returns (told (o .answer)) (back c (o .left .«record»))) (o .left .heap) (o .left .roots)
 
-  lands : (k : Call) (H R : List ℕ) (b : Bool) → noHalf c ≡ b → sent (step tuple k (lent H R (taken c))) ≡ called returns (step tuple k) H R c
+  lands : (k : Call) (H R : List ℕ) (b : Bool) → noHalf c ≡ b
+      → sent (step tuple k (lent H R (taken c))) ≡ called returns (step tuple k) H R c
   unfolding called
-  lands k H R true e = rw e (ap (λ (o : Outcome). given (returns (told (o .answer)) c) (o .left .heap) (o .left .roots)) (shape-first tuple (lent H R nowhere) (nowhere-bad H R) k))
+  lands k H R true e =
+      rw e
+      (ap (λ (o : Outcome). given (returns (told (o .answer)) c) (o .left .heap) (o .left .roots))
+      (shape-first tuple (lent H R nowhere) (nowhere-bad H R) k))
   lands k H R false e = rw e
 
-  pub crosses : {H′ R′ : List ℕ} {q : Record} {o : Answered} {r : T} (H R : List ℕ) (k : Call) → q ≡ taken c → outcome o H′ R′ ≡ step tuple k (lent H R q)
+  pub crosses : {H′ R′ : List ℕ} {q : Record} {o : Answered} {r : T} (H R : List ℕ) (k : Call)
+      → q ≡ taken c → outcome o H′ R′ ≡ step tuple k (lent H R q)
       → r ≡ returns (told (o .answer)) (back c (o .«record»)) → given r H′ R′ ≡ called returns (step tuple k) H R c
   crosses {H′} {R′} H R k e f g = ap (λ x. given x H′ R′) g ∙ ap sent (made H R c k e f) ∙ lands k H R (noHalf c) refl
 
@@ -53,24 +59,30 @@ taken-narrow c e n = subst (λ q. Narrow (q .free .0)) (sym e) (go (noHalf c) re
     go true e = rw e (omega arith)
     go false e = rw e n
 
-pub narrow : {H′ R′ : List ℕ} {q : Record} {o : Answered} (c : CRecord) (H R : List ℕ) (k : Call) → q ≡ taken c → outcome o H′ R′ ≡ step tuple k (lent H R q)
+pub narrow : {H′ R′ : List ℕ} {q : Record} {o : Answered} (c : CRecord) (H R : List ℕ) (k : Call)
+    → q ≡ taken c → outcome o H′ R′ ≡ step tuple k (lent H R q)
     → Narrow (c .free) → Narrow (o .«record» .free .0)
 narrow c H R k e f n = subst (λ (o : Outcome). Narrow (free (o .left))) (sym f) (step-narrow tuple (lent H R _) (taken-narrow c e n) k)
 
 -- fresh: it does not look at the record that it is given
-pub fresh-crosses : {H′ : List ℕ} {o : Answered} {r : CResult} (H : List ℕ) (q : Record) (c : CRecord) → outcome o H′ [] ≡ fresh (lent H [] q)
+pub fresh-crosses : {H′ : List ℕ} {o : Answered} {r : CResult} (H : List ℕ) (q : Record) (c : CRecord)
+    → outcome o H′ [] ≡ fresh (lent H [] q)
     → r ≡ result (told (o .answer)) (freshBack (told (o .answer)) c (o .«record»)) → given r H′ [] ≡ begun H c
 unfolding fresh refuse begun
 fresh-crosses {H′} H q c f e =
     ap (λ x. given x H′ []) e
-    ∙ ap (λ (o : Outcome). given (result (told (o .answer)) (freshBack (told (o .answer)) c (o .left .«record»))) (o .left .heap) (o .left .roots)) f
+    ∙ ap sent-back f
     ∙ go (badLength (length H)) refl
   where
-    go : (b : Bool) → badLength (length H) ≡ b → given (result (told (fresh (lent H [] q) .answer)) (freshBack (told (fresh (lent H [] q) .answer)) c (fresh (lent H [] q) .left .«record»))) (fresh (lent H [] q) .left .heap) (fresh (lent H [] q) .left .roots) ≡ begun H c
+    sent-back : Outcome → Given CResult
+    sent-back o = given (result (told (o .answer)) (freshBack (told (o .answer)) c (o .left .«record»))) (o .left .heap) (o .left .roots)
+
+    go : (b : Bool) → badLength (length H) ≡ b → sent-back (fresh (lent H [] q)) ≡ begun H c
     go true e = rw e
     go false e = rw e
 
-pub fresh-narrow : {H′ : List ℕ} {o : Answered} (H : List ℕ) (q : Record) (c : CRecord) → q ≡ taken c → outcome o H′ [] ≡ fresh (lent H [] q)
+pub fresh-narrow : {H′ : List ℕ} {o : Answered} (H : List ℕ) (q : Record) (c : CRecord)
+    → q ≡ taken c → outcome o H′ [] ≡ fresh (lent H [] q)
     → Narrow (c .free) → Narrow (o .«record» .free .0)
 unfolding fresh refuse
 fresh-narrow H q c e f n = subst (λ (o : Outcome). Narrow (free (o .left))) (sym f) (go (badLength (length H)) refl)
@@ -80,7 +92,8 @@ fresh-narrow H q c e f n = subst (λ (o : Outcome). Narrow (free (o .left))) (sy
     go false g = rw g (omega arith)
 
 -- the window
-pub window-crosses : {q : Record} {p : Place} {w : CWindow} (c : CRecord) (H R : List ℕ) (r : ℕ) → q ≡ taken c → p ≡ window tuple r (lent H R q)
+pub window-crosses : {q : Record} {p : Place} {w : CWindow} (c : CRecord) (H R : List ℕ) (r : ℕ)
+    → q ≡ taken c → p ≡ window tuple r (lent H R q)
     → w ≡ windowNumbers p → w ≡ opened (window tuple r) H R c
 unfolding opened
 window-crosses c H R r e f g = g ∙ ap windowNumbers (f ∙ ap (λ q. window tuple r (lent H R q)) e) ∙ go (noHalf c) refl

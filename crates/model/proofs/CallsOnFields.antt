@@ -108,7 +108,8 @@ module _ (Y : Layout) where
       on-object s g m Untraced v w f next _ _ e (λ x i q.
       untraced-object s g m x f next (t x) (nth g x) (m .holds x i) (λ ws o l. k x ws i q o l))
 
-  pub load-agrees : (r f q : ℕ) (s : State) (g : Graph) → Represents Y s g → Agrees Y (step Y (Ask.Load r f q) s) (graphStep (Ask.Load r f q) g)
+  pub load-agrees : (r f q : ℕ) (s : State) (g : Graph) → Represents Y s g
+      → Agrees Y (step Y (Ask.Load r f q) s) (graphStep (Ask.Load r f q) g)
   unfolding step Calls.load graphStep
   load-agrees r f q s g m =
       shape-passes Y s g _ _ m
@@ -201,7 +202,8 @@ module _ (Y : Layout) where
       shape-passes Y s g _ _ m
       (refuse-agrees Y (noRoot s r || noRoot s q) (graphNoRoot g r || graphNoRoot g q) Why.Root s g _ _ m (two-roots Y s g r q m) (λ a.
       let b = or-none (noRoot s r) (noRoot s q) a in
-      traced-field s g m (rootValue g r) (rootWord s r) f _ (λ i vs. graphSays Says.Done (withObject g i (traced (set vs f (rootValue g q)))))
+      traced-field s g m (rootValue g r) (rootWord s r) f _
+      (λ i vs. graphSays Says.Done (withObject g i (traced (set vs f (rootValue g q)))))
       (m .roots r (has-root Y s g m r (b .0)))
       (λ x vs i e o l. (
         refl,

@@ -71,7 +71,8 @@ module _ (Y : Layout) where
       refuse-agrees Y (not (inRange v)) (not (inRange v)) Why.Range s g _ _ m refl (λ b.
       (refl, root-represents s g m r (tag v) (plain (integer v)) (not-false (inRange v) b, refl)))))
 
-  pub setNull-agrees : (r : ℕ) (s : State) (g : Graph) → Represents Y s g → Agrees Y (step Y (Ask.SetNull r) s) (graphStep (Ask.SetNull r) g)
+  pub setNull-agrees : (r : ℕ) (s : State) (g : Graph) → Represents Y s g
+      → Agrees Y (step Y (Ask.SetNull r) s) (graphStep (Ask.SetNull r) g)
   unfolding step Calls.setNull graphStep
   setNull-agrees r s g m =
       shape-passes Y s g _ _ m
@@ -173,7 +174,8 @@ module _ (Y : Layout) where
       rw (e .1, header-not-odd Y s (m .ok) i hd, header-not-null Y s (m .ok) i hd, header-names Y s (m .ok) i hd, index-address Y i)
       (inspect-object s g m x (nth g x) (m .holds x (e .0)))
 
-  pub inspect-agrees : (r : ℕ) (s : State) (g : Graph) → Represents Y s g → Agrees Y (step Y (Ask.Inspect r) s) (graphStep (Ask.Inspect r) g)
+  pub inspect-agrees : (r : ℕ) (s : State) (g : Graph) → Represents Y s g
+      → Agrees Y (step Y (Ask.Inspect r) s) (graphStep (Ask.Inspect r) g)
   unfolding step Calls.inspect graphStep
   inspect-agrees r s g m =
       shape-passes Y s g _ _ m

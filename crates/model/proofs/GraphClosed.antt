@@ -125,5 +125,6 @@ reach-under : (g : Graph) → Closed g → (i : ℕ) → D3.Reachable g i → i 
 reach-under g c j (D3.fromRoot r {i} e) = subst (Under (length (g .objects))) e (c .roots r)
 reach-under g c k (D3.fromField f {i} {j} vs r e v) = subst (Under (length (g .objects))) v (traced-under g i vs c e f)
 
-pub session-known : (cs : List Call) (n i : ℕ) → D3.Reachable (graphAfter cs (emptyGraph n)) i → i < length (graphAfter cs (emptyGraph n) .objects)
+pub session-known : (cs : List Call) (n i : ℕ) → D3.Reachable (graphAfter cs (emptyGraph n)) i
+    → i < length (graphAfter cs (emptyGraph n) .objects)
 session-known cs n i r = reach-under (graphAfter cs (emptyGraph n)) (after-closed cs (emptyGraph n) (empty-closed n)) i r

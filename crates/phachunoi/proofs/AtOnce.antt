@@ -42,7 +42,8 @@ module _ {H′ R′ : List ℕ} {p q : Record} (c : CRecord) (H R : List ℕ) (k
       go false z = z
       go true z = never (nowhere-bad H R) (at-once-shaped tuple k n r (lent H R nowhere) (fitted-nowhere z))
 
-  pub at-once-crosses : {a : CResult} → a ≡ result (told Says.Done) (numbersOf p) → given a H′ R′ ≡ called result (allocate tuple k n r) H R c
+  pub at-once-crosses : {a : CResult} → a ≡ result (told Says.Done) (numbersOf p)
+      → given a H′ R′ ≡ called result (allocate tuple k n r) H R c
   unfolding step
   at-once-crosses h =
       crosses result c {o = record { answer = Says.Done; «record» = p }} H R (Ask.Allocate k n r) e g

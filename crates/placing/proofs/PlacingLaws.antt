@@ -29,12 +29,14 @@ use Rattle.placing.specs.Placing.{MayPlace, MaySpare, spareOf, atOnce}
 
 module _ (Y : Layout) (s : State) (k : Kind) (n r : ℕ) where
   placed-is : placed Y k n r s
-      ≡ lent (cleared (set (s .heap) (free s) (Y .header k n)) (free s + 1) n) (set (s .roots) r (address Y (free s))) (record { half = s .«record» .half; free = record { 0 = free s + (n + 1) } })
+      ≡ lent (cleared (set (s .heap) (free s) (Y .header k n)) (free s + 1) n) (set (s .roots) r (address Y (free s)))
+      (record { half = s .«record» .half; free = record { 0 = free s + (n + 1) } })
   unfolding placed
   placed-is = rw (cleared-sets, add-one (free s))
 
   -- from what each call answers
-  pub placed-by : (header a : ℕ) (h₁ : List ℕ) → header ≡ Y .header k n → h₁ ≡ cleared (set (s .heap) (free s) header) (free s + 1) n → a ≡ address Y (free s)
+  pub placed-by : (header a : ℕ) (h₁ : List ℕ) → header ≡ Y .header k n → h₁ ≡ cleared (set (s .heap) (free s) header) (free s + 1) n
+      → a ≡ address Y (free s)
       → lent h₁ (set (s .roots) r a) (record { half = s .«record» .half; free = record { 0 = free s + (n + 1) } }) ≡ placed Y k n r s
   placed-by header a h₁ e f g = rw (placed-is, f, e, g)
 
@@ -42,7 +44,8 @@ module _ (Y : Layout) (s : State) (k : Kind) (n r : ℕ) where
 pub may-spare : (s : State) → Shaped s → MaySpare (length (s .heap)) (s .«record»)
 may-spare s h = record { some = omega (arith, h .odd); few = omega (arith, h .odd, h .small); high = h .high }
 
-pub may-place : (s : State) (n r : ℕ) → Shaped s → r < length (s .roots) → n ≤ maxFields → n < spareOf (length (s .heap)) (s .«record») → MayPlace s n r
+pub may-place : (s : State) (n r : ℕ) → Shaped s → r < length (s .roots) → n ≤ maxFields
+    → n < spareOf (length (s .heap)) (s .«record») → MayPlace s n r
 may-place s n r h l c f =
     let b = first-in s h in
     record { room = omega (arith, b .1); words = omega (arith, h .odd, h .small); root = l; count = c }

@@ -31,7 +31,9 @@ fits-requires c κs = search needs
 -- ---- at once
 
 -- past its test, the object fits
-fitted : (c : tie.Then1) → atOnce (length (c .before .before .before .before .before .args .heap .now)) (length (c .before .before .before .before .before .args .roots .now)) (c .before .before .record-of .result) (c .before .before .before .before .before .args .fields) (c .before .before .before .before .before .args .to) ≡ true
+fitted : (c : tie.Then1) → let s = c .before .before .before .before .before in
+    atOnce (length (s .args .heap .now)) (length (s .args .roots .now)) (c .before .before .record-of .result) (s .args .fields) (s .args .to)
+    ≡ true
 fitted c = sym (c .before .fits2 .ensures) ∙ c .if1 .taken
 
 allocate-requires : tie.Need-allocate-requires
@@ -39,9 +41,13 @@ allocate-requires c κs = fitted (c .before .before)
 
 done-with-requires : tie.Need-done-with-requires
 done-with-requires c κs =
-    let start = c .before .before .before .before .before .before .before .before .before .before .before .before in
+    let placed = c .before .before .before .before in
+    let fitting = placed .before .before .before in
+    let crossed = fitting .before .before in
+    let start = crossed .before .before .before in
     let a = start .args in
-    at-once-narrow (a .«record») (a .heap .now) (a .roots .now) Traced (a .fields) (a .to) (c .before .before .before .before .before .before .before .before .before .record-of .ensures) (fitted (c .before .before .before .before .before .before .before)) (c .before .before .before .before .allocate .ensures) (omega (arith, start .good))
+    at-once-narrow (a .«record») (a .heap .now) (a .roots .now) Traced (a .fields) (a .to)
+    (crossed .record-of .ensures) (fitted fitting) (placed .allocate .ensures) (omega (arith, start .good))
 
 same-length : tie.Need-same-length
 same-length c = search needs
@@ -51,8 +57,12 @@ same-length-2 c = search needs
 
 returns : tie.Need-returns
 returns c =
-    let a = c .before .before .before .before .before .before .before .before .before .before .before .before .before .args in
-    at-once-crosses (a .«record») (a .heap .now) (a .roots .now) Traced (a .fields) (a .to) (c .before .before .before .before .before .before .before .before .before .before .record-of .ensures) (fitted (c .before .before .before .before .before .before .before .before)) (c .before .before .before .before .before .allocate .ensures) (c .done-with .ensures)
+    let placed = c .before .before .before .before .before in
+    let fitting = placed .before .before .before in
+    let crossed = fitting .before .before in
+    let a = crossed .before .before .before .args in
+    at-once-crosses (a .«record») (a .heap .now) (a .roots .now) Traced (a .fields) (a .to)
+    (crossed .record-of .ensures) (fitted fitting) (placed .allocate .ensures) (c .done-with .ensures)
 
 -- ---- by the whole call
 
@@ -65,9 +75,12 @@ allocate-requires-2 c κs = search needs
 result-requires : tie.Need-result-requires
 unfolding step
 result-requires c κs =
-    let s = c .before .before .before .before .before .before .before .before .before .before .before .before .before in
-    let a = s .args in
-    narrow (a .«record») (a .heap .now) (a .roots .now) (Ask.Allocate Traced (a .fields) (a .to)) (c .before .before .before .before .before .record-of2 .ensures) (c .before .before .before .before .allocate2 .ensures) (omega (arith, s .good))
+    let called = c .before .before .before .before in
+    let crossed = called .before in
+    let start = crossed .before .before .before .before .before .before .before .before in
+    let a = start .args in
+    narrow (a .«record») (a .heap .now) (a .roots .now) (Ask.Allocate Traced (a .fields) (a .to))
+    (crossed .record-of2 .ensures) (called .allocate2 .ensures) (omega (arith, start .good))
 
 same-length-3 : tie.Need-same-length-3
 same-length-3 c = search needs
@@ -78,8 +91,11 @@ same-length-4 c = search needs
 returns-2 : tie.Need-returns-2
 unfolding step
 returns-2 c =
-    let a = c .before .before .before .before .before .before .before .before .before .before .before .before .before .before .args in
-    crosses result (a .«record») (a .heap .now) (a .roots .now) (Ask.Allocate Traced (a .fields) (a .to)) (c .before .before .before .before .before .before .record-of2 .ensures) (c .before .before .before .before .before .allocate2 .ensures) (c .result .ensures)
+    let called = c .before .before .before .before .before in
+    let crossed = called .before in
+    let a = crossed .before .before .before .before .before .before .before .before .args in
+    crosses result (a .«record») (a .heap .now) (a .roots .now) (Ask.Allocate Traced (a .fields) (a .to))
+    (crossed .record-of2 .ensures) (called .allocate2 .ensures) (c .result .ensures)
 
 pub phachunoi-allocate-traced-spec : {M : Type 1} → statement M
 phachunoi-allocate-traced-spec =

@@ -1,6 +1,6 @@
 -- `placing::at_once::allocate` meets its contract: the object is placed.
 use Rattle.model.specs.Headers.{tuple}
-use Rattle.model.specs.Words.{lent}
+use Rattle.model.specs.Words.{State, lent}
 use Rattle.placing.proofs.PlacingLaws.{at-once-place, at-once-done}
 use borrow.Author.Needs.{needs}
 use Rattle.placing.proofs.at_once.allocate.Statement.{statement}
@@ -9,10 +9,14 @@ use Rattle.placing.proofs.at_once.allocate.Reads as reads
 use Rattle.placing.proofs.at_once.allocate.Lts as lts
 use Rattle.placing.proofs.place.Reads as place-reads
 
+-- what the call was lent
+abbrev start : tie.Start → State
+start c = lent (c .args .heap .now) (c .args .roots .now) (c .args .«record»)
+
 place-requires : tie.Need-place-requires
 place-requires c κs =
     let s = c .before .before .before .before in
-    at-once-place tuple (s .args .kind) (s .args .fields) (s .args .to) (lent (s .args .heap .now) (s .args .roots .now) (s .args .«record»)) (s .pre)
+    at-once-place tuple (s .args .kind) (s .args .fields) (s .args .to) (start s) (s .pre)
 
 same-length : tie.Need-same-length
 same-length c = search needs
@@ -23,7 +27,7 @@ same-length-2 c = search needs
 returns : tie.Need-returns
 returns c =
     let s = c .before .before .before .before .before .before .before .before .before in
-    rw (at-once-done tuple (s .args .kind) (s .args .fields) (s .args .to) (lent (s .args .heap .now) (s .args .roots .now) (s .args .«record»)) (s .pre), ← (c .before .before .before .before .place .ensures))
+    rw (at-once-done tuple (s .args .kind) (s .args .fields) (s .args .to) (start s) (s .pre), ← (c .before .before .before .before .place .ensures))
 
 pub allocate-spec : {M : Type 1} → statement M
 allocate-spec = tie.close (tie.spec place-requires same-length same-length-2 returns)

@@ -23,7 +23,10 @@ spare-of-requires : tie.Need-spare-of-requires
 spare-of-requires c κs = numbers-spare _ _ _ (sym (c .before .before .bad-shape .ensures) ∙ c .before .if1 .left)
 
 returns-3 : tie.Need-returns-3
-returns-3 c = rw (sym (c .before .before .before .bad-shape .ensures) ∙ c .before .before .if1 .left, lt-leb _ _ (c .before .if2 .left), c .spare-of .ensures)
+returns-3 c =
+    let rooted = c .before in
+    let shaped = rooted .before in
+    rw (sym (shaped .before .bad-shape .ensures) ∙ shaped .if1 .left, lt-leb _ _ (rooted .if2 .left), c .spare-of .ensures)
 
 pub fits-spec : {M : Type 1} → statement M
 fits-spec = tie.close (tie.spec bad-shape-requires returns returns-2 spare-of-requires returns-3)
