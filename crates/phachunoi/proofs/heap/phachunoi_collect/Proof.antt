@@ -2,6 +2,7 @@
 use native.Mathlib.Omega.{arith}
 use Rattle.model.specs.declared.Call.the-variants as Ask
 use Rattle.model.specs.Sessions.{step}
+use Rattle.crossing.specs.Crossing.{Narrow}
 use Rattle.crossing.specs.Numbers.{collected}
 use Rattle.crossing.proofs.Crosses.{crosses, narrow}
 use borrow.Author.Needs.{needs}
@@ -12,6 +13,10 @@ use Rattle.phachunoi.proofs.heap.phachunoi_collect.Lts as lts
 use Rattle.crossing.proofs.collected.Reads as collected-reads
 use Rattle.crossing.proofs.record_of.Reads as record-of-reads
 use Rattle.collector.proofs.collect.Reads as collect-reads
+
+-- C's free index is a word
+small : (c : tie.Start) → Narrow (c .args .«record» .free)
+small c = omega arith
 
 record-of-requires : tie.Need-record-of-requires
 record-of-requires c κs = search needs
@@ -39,9 +44,10 @@ unfolding step
 collected-requires c κs =
     let called = c .before .before .before .before in
     let crossed = called .before in
-    let a = crossed .before .before .before .before .before .args in
+    let s = crossed .before .before .before .before .before in
+    let a = s .args in
     narrow (a .«record») (a .heap .now) (a .roots .now) Ask.Collect
-    (crossed .record-of .ensures) (called .collect .ensures) (omega arith)
+    (crossed .record-of .ensures) (called .collect .ensures) (small s)
 
 pub phachunoi-collect-spec : {M : Type 1} → statement M
 phachunoi-collect-spec =

@@ -1,5 +1,6 @@
 -- `phachunoi::heap::phachunoi_fresh` meets its contract: fresh is called with no roots.
 use native.Mathlib.Omega.{arith}
+use Rattle.crossing.specs.Crossing.{Narrow}
 use Rattle.crossing.proofs.Crosses.{fresh-crosses, fresh-narrow}
 use borrow.Author.Needs.{needs}
 use Rattle.phachunoi.proofs.heap.phachunoi_fresh.Statement.{statement}
@@ -9,6 +10,10 @@ use Rattle.phachunoi.proofs.heap.phachunoi_fresh.Lts as lts
 use Rattle.access.proofs.fresh.fresh.Reads as fresh-reads
 use Rattle.crossing.proofs.fresh_result.Reads as fresh-result-reads
 use Rattle.crossing.proofs.record_of.Reads as record-of-reads
+
+-- C's free index is a word
+small : (c : tie.Start) → Narrow (c .args .«record» .free)
+small c = omega arith
 
 slice-aggregate-fresh : tie.Need-slice-aggregate-fresh
 slice-aggregate-fresh c = search needs
@@ -23,9 +28,10 @@ fresh-result-requires : tie.Need-fresh-result-requires
 fresh-result-requires c κs =
     let called = c .before .before in
     let crossed = called .before in
-    let a = crossed .before .before .before .before .args in
+    let s = crossed .before .before .before .before in
+    let a = s .args in
     fresh-narrow (a .heap .now) (crossed .record-of .result) (a .«record»)
-    (crossed .record-of .ensures) (called .fresh .ensures) (omega arith)
+    (crossed .record-of .ensures) (called .fresh .ensures) (small s)
 
 same-length : tie.Need-same-length
 same-length c = search needs

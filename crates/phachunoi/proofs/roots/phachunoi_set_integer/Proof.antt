@@ -4,6 +4,7 @@ use mir.Syntax.{w64}
 use mir.ValLaws.{toZ-ofZ}
 use Rattle.model.specs.declared.Call.the-variants as Ask
 use Rattle.model.specs.Sessions.{step}
+use Rattle.crossing.specs.Crossing.{Narrow}
 use Rattle.crossing.specs.Numbers.{result}
 use Rattle.crossing.proofs.Crosses.{crosses, narrow}
 use borrow.Author.Needs.{needs}
@@ -14,6 +15,10 @@ use Rattle.phachunoi.proofs.roots.phachunoi_set_integer.Lts as lts
 use Rattle.access.proofs.set_integer.set_integer.Reads as set-integer-reads
 use Rattle.crossing.proofs.record_of.Reads as record-of-reads
 use Rattle.crossing.proofs.result.Reads as result-reads
+
+-- C's free index is a word
+small : (c : tie.Start) → Narrow (c .args .«record» .free)
+small c = omega arith
 
 record-of-requires : tie.Need-record-of-requires
 record-of-requires c κs = search needs
@@ -44,7 +49,7 @@ result-requires c κs =
     let a = s .args in
     let v = toZ-ofZ w64 (a .value) (s .fits .value) in
     narrow (a .«record») (a .heap .now) (a .roots .now) (Ask.SetInteger (a .to) (a .value))
-    (crossed .record-of .ensures) (rw v at (called .set-integer .ensures)) (omega arith)
+    (crossed .record-of .ensures) (rw v at (called .set-integer .ensures)) (small s)
 
 pub phachunoi-set-integer-spec : {M : Type 1} → statement M
 phachunoi-set-integer-spec =
