@@ -13,13 +13,14 @@ where g has no `requires` and one `ensures` of one fact. The borrow checker does
 code. The walks of two thin calls differ only in which slices are lent by `&` and which by `&mut`, and in how many parameters
 follow the record: their types, the struct that g returns and the promise are parameters of the lemma.
 
-    tools/gen_thin.py      from the repository's root: writes every pattern of PATTERNS anew
+    tools/gen_thin.py      from the repository's root: writes every pattern of PATTERNS anew, in the layout of `rt fmt`
 
 For another pattern add a line to PATTERNS and the file's name to crates/host/proofs/Lib.antt. For a further parameter of
 another type, or another struct that a call returns, add it to crates/host/proofs/ByValueTypes.antt. A thin call's own proof
 cites `thin-meets` of its pattern: copy that of crates/host/proofs/whole/collect.
 """
 import re
+import subprocess
 
 FOLDER = "crates/host/proofs"
 
@@ -600,6 +601,56 @@ class Pattern:
             + self.asked() + self.goes() + self.exits() + self.walk() + self.meets()
 
 
+# ---- long lines
+
+WIDTH = 124
+
+
+def places(text):
+    """Where a line may be broken, before a space: (place, how many brackets deep, how good a place, the least being best).
+    A bracket that is shut on a later line does not count."""
+    opened, shut = [], {}
+    for i, c in enumerate(text):
+        if c in "([{":
+            opened.append(i)
+        elif c in ")]}" and opened:
+            shut[opened.pop()] = i
+    depth = 0
+    for i, c in enumerate(text):
+        depth += (i in shut) - (i in shut.values())
+        if c != " ":
+            continue
+        last, rest = text[:i].split(" ")[-1], text[i + 1:]
+        if last in ("$", "∵", "=") or last.endswith(".") or rest.startswith("→ "):
+            yield i, depth, 0
+        elif last in ("∷", "⊛") or last.endswith((",", ";")):
+            yield i, depth, 1
+        elif rest.startswith("(") and last not in ("‵", "!", "→", "×", "λ", "raw"):
+            yield i, depth, 2
+
+
+def broken(line):
+    """A line as lines of at most WIDTH characters, broken at the shallowest places, of these at the best, of these at the last.
+    What a name is defined as starts on a line of its own."""
+    text = line.lstrip()
+    indent = " " * (len(line) - len(text))
+    if len(line) <= WIDTH or text.startswith(("--", "use ")):
+        return line
+    lines = []
+    defined = re.match(r"[^:({]* =(?= )", text)
+    if defined:
+        lines.append(indent + defined[0])
+        text = text[defined.end() + 1:]
+    while True:
+        start = indent if not lines else indent + "    "
+        can = [(depth, kind, -i) for i, depth, kind in places(text) if 8 < i <= WIDTH - len(start)]
+        if len(start + text) <= WIDTH or not can:
+            return "\n".join(lines + [start + text])
+        i = -min(can)[2]
+        lines.append(start + text[:i])
+        text = text[i + 1:]
+
+
 # ---- the file
 
 HEAD = """-- The walk of a thin call over ({}), once for all such calls.
@@ -643,4 +694,5 @@ def file_of(slices, further):
 
 for name, slices, further in PATTERNS:
     with open(f"{FOLDER}/{name}.antt", "w") as out:
-        out.write(file_of(slices, further))
+        out.write("\n".join(broken(line) for line in file_of(slices, further).split("\n")))
+subprocess.run(["rt", "fmt"], check=True)

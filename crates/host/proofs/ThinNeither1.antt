@@ -53,7 +53,9 @@ R = T.the-row
 abbrev mach : Record → Val
 mach r = LL.val T.the-type T′.the-laws r
 
-module _ (O : Returned) (E₁ : ByValue) (Q : type-of E₁ .Denot → List ℕ → List ℕ → Record → type-of (O .answer-type) .Denot → Record → Type 0) (callee : Name) where
+module _ (O : Returned) (E₁ : ByValue)
+    (Q : type-of E₁ .Denot → List ℕ → List ℕ → Record → type-of (O .answer-type) .Denot → Record → Type 0)
+    (callee : Name) where
   abbrev body : Code
   body =
       seq (assign (place 6 []) (rvOpd (copy (place 3 (deref T′.mir ∷ [])))))
@@ -62,28 +64,83 @@ module _ (O : Returned) (E₁ : ByValue) (Q : type-of E₁ .Denot → List ℕ �
       (seq (assign (place 0 []) (rvOpd (copy (place 5 (field 0 ∷ []))))) return)))
 
   abbrev thin : Fn
-  thin = record { lifetimes = 3; outlives = []; params = 4; body = body; locals = local (O .answer-type .mir) valueLocal ∷ local (sliceTy (tyRef (named 0) imm (tyInt w32))) valueLocal ∷ local (sliceTy (tyRef (named 1) imm (tyInt w32))) valueLocal ∷ local (tyRef (named 2) mut (pointee (R .written))) valueLocal ∷ local (E₁ .mir) valueLocal ∷ local (returned-mir O) valueLocal ∷ local (T′.mir) valueLocal ∷ [] }
+  thin =
+      record {
+        lifetimes = 3;
+        outlives = [];
+        params = 4;
+        body = body;
+        locals =
+            local (O .answer-type .mir) valueLocal ∷ local (sliceTy (tyRef (named 0) imm (tyInt w32))) valueLocal ∷
+            local (sliceTy (tyRef (named 1) imm (tyInt w32))) valueLocal ∷
+            local (tyRef (named 2) mut (pointee (R .written))) valueLocal ∷ local (E₁ .mir) valueLocal ∷
+            local (returned-mir O) valueLocal ∷ local (T′.mir) valueLocal ∷ [];
+      }
 
   abbrev thin-ended : Ended
-  thin-ended = record { kept = (yes, (yes, (yes, (yes, tt)))); signature = record { lifetimes = 3; outlives = []; result = plain (λ _. type-of (O .answer-type)); params = SliceRefOf (0 ∷ []) tt (plain (λ _. u32)) (λ _. tt) ∷ SliceRefOf (1 ∷ []) tt (plain (λ _. u32)) (λ _. tt) ∷ RefMutOf (2 ∷ []) tt (plain (λ _. R)) (λ _. tt) ∷ plain (λ _. type-of E₁) ∷ [] } }
+  thin-ended =
+      record {
+        kept = (yes, (yes, (yes, (yes, tt))));
+        signature =
+            record {
+              lifetimes = 3;
+              outlives = [];
+              result = plain (λ _. type-of (O .answer-type));
+              params =
+                  SliceRefOf (0 ∷ []) tt (plain (λ _. u32)) (λ _. tt) ∷ SliceRefOf (1 ∷ []) tt (plain (λ _. u32)) (λ _. tt) ∷
+                  RefMutOf (2 ∷ []) tt (plain (λ _. R)) (λ _. tt) ∷ plain (λ _. type-of E₁) ∷ [];
+            };
+      }
 
   abbrev callee-ended : Ended
-  callee-ended = record { kept = (yes, (yes, (yes, (yes, tt)))); signature = record { lifetimes = 2; outlives = []; result = plain (λ _. returned-type O); params = SliceRefOf (0 ∷ []) tt (plain (λ _. u32)) (λ _. tt) ∷ SliceRefOf (1 ∷ []) tt (plain (λ _. u32)) (λ _. tt) ∷ plain (λ _. R) ∷ plain (λ _. type-of E₁) ∷ [] } }
+  callee-ended =
+      record {
+        kept = (yes, (yes, (yes, (yes, tt))));
+        signature =
+            record {
+              lifetimes = 2;
+              outlives = [];
+              result = plain (λ _. returned-type O);
+              params =
+                  SliceRefOf (0 ∷ []) tt (plain (λ _. u32)) (λ _. tt) ∷ SliceRefOf (1 ∷ []) tt (plain (λ _. u32)) (λ _. tt) ∷
+                  plain (λ _. R) ∷ plain (λ _. type-of E₁) ∷ [];
+            };
+      }
 
   module _ {M : Type 1} (𝓤 : URA M) where
     abbrev thin-clauses : Clauses 𝓤 thin-ended
-    thin-clauses κs a = record { ghost = Unit {0}; requires = λ _. emp 𝓤; ensures = λ _ r e. fact 𝓤 (Q (a .1 .1 .1 .0) (a .0 .now) (a .1 .0 .now) (a .1 .1 .0 .now) r (e .1 .1 .0 .now)) }
+    thin-clauses κs a =
+        record {
+          ghost = Unit {0};
+          requires = λ _. emp 𝓤;
+          ensures = λ _ r e.
+              fact 𝓤 (Q (a .1 .1 .1 .0) (a .0 .now) (a .1 .0 .now) (a .1 .1 .0 .now) r (e .1 .1 .0 .now));
+        }
 
     abbrev callee-clauses : Clauses 𝓤 callee-ended
-    callee-clauses κs a = record { ghost = Unit {0}; requires = λ _. emp 𝓤; ensures = λ _ r e. fact 𝓤 (Q (a .1 .1 .1 .0) (a .0 .now) (a .1 .0 .now) (a .1 .1 .0) (O .answer r) (O .«record» r)) }
+    callee-clauses κs a =
+        record {
+          ghost = Unit {0};
+          requires = λ _. emp 𝓤;
+          ensures = λ _ r e.
+              fact 𝓤 (Q (a .1 .1 .1 .0) (a .0 .now) (a .1 .0 .now) (a .1 .1 .0) (O .answer r) (O .«record» r));
+        }
 
   abbrev stayed : Stays (thin-ended .signature .params) (thin-ended .kept)
-  stayed = (stay-none-slice (0 ∷ []) tt (plain (λ _. u32)) yes, (stay-none-slice (1 ∷ []) tt (plain (λ _. u32)) yes, (stay-ref (2 ∷ []) tt (plain (λ _. R)), (stay-none (λ _. type-of E₁) yes, tt))))
+  stayed = (
+    stay-none-slice (0 ∷ []) tt (plain (λ _. u32)) yes,
+    (
+      stay-none-slice (1 ∷ []) tt (plain (λ _. u32)) yes,
+      (stay-ref (2 ∷ []) tt (plain (λ _. R)), (stay-none (λ _. type-of E₁) yes, tt)),
+    ),
+  )
 
   abbrev Callee : {M : Type 1} (𝓤 : URA M) (H : Heap 𝓤) (A : Atoms 𝓤) → Contract 𝓤
   Callee 𝓤 H A = tripleOf 𝓤 H A (callee-ended .signature) (closing 𝓤 H A callee-ended (callee-clauses 𝓤))
 
-  module _ {M : Type 1} (𝓤 : URA M) (H : Heap 𝓤) (A : Atoms 𝓤) (W : Given 𝓤 H A) (κ₀ κ₁ κ₂ : Lft) (q₀ q₁ q₂ : Share) (x₀ x₁ : RefT (List ℕ)) (b o : ℕ) (γ : GName) (h : Record) (e₁ : type-of E₁ .Denot) (is₁ : Is (type-of E₁) e₁ (E₁ .val e₁ ∷ [])) where
+  module _ {M : Type 1} (𝓤 : URA M) (H : Heap 𝓤) (A : Atoms 𝓤) (W : Given 𝓤 H A) (κ₀ κ₁ κ₂ : Lft) (q₀ q₁ q₂ : Share)
+      (x₀ x₁ : RefT (List ℕ)) (b o : ℕ) (γ : GName) (h : Record) (e₁ : type-of E₁ .Denot)
+      (is₁ : Is (type-of E₁) e₁ (E₁ .val e₁ ∷ [])) where
     abbrev Rest : Type 0
     Rest = type-of E₁ .Denot × (Unit {0})
 
@@ -112,7 +169,16 @@ module _ (O : Returned) (E₁ : ByValue) (Q : type-of E₁ .Denot → List ℕ �
     Post = walkOf 𝓤 H A thin-ended stayed (thin-clauses 𝓤) .post y
 
     abbrev to-callee : Callee 𝓤 H A .Ghost
-    to-callee = (((κ₀, (κ₁, tt)), (q₀, (q₁, tt)), tt, (x₀, (x₁, (h, rest))), (s₀ ∷ [], (s₁ ∷ [], (mach h ∷ [], (E₁ .val e₁ ∷ [], tt))))), tt)
+    to-callee = (
+      (
+        (κ₀, (κ₁, tt)),
+        (q₀, (q₁, tt)),
+        tt,
+        (x₀, (x₁, (h, rest))),
+        (s₀ ∷ [], (s₁ ∷ [], (mach h ∷ [], (E₁ .val e₁ ∷ [], tt)))),
+      ),
+      tt,
+    )
 
     abbrev Own₀ : Fml
     Own₀ = ShrSlice (named 0) κ₀ u32 .own x₀ (s₀ ∷ [])
@@ -120,53 +186,142 @@ module _ (O : Returned) (E₁ : ByValue) (Q : type-of E₁ .Denot → List ℕ �
     abbrev Own₁ : Fml
     Own₁ = ShrSlice (named 1) κ₁ u32 .own x₁ (s₁ ∷ [])
 
-    asked : ent 𝓤 (onEntry 𝓤 H A (callee-ended .signature) (κ₀, (κ₁, tt)) (q₀, (q₁, tt)) (x₀, (x₁, (h, rest))) (s₀ ∷ [], (s₁ ∷ [], (mach h ∷ [], (E₁ .val e₁ ∷ [], tt))))) (Callee 𝓤 H A .pre to-callee)
-    asked = qed W ((‵ (flft κ₀ q₀) ⊛ ‵ (flft κ₁ q₁) ⊛ ‵ ftrue) ∷ ‵ (owns (ShrSlice (named 0) κ₀ u32 ∷ ShrSlice (named 1) κ₁ u32 ∷ R ∷ type-of E₁ ∷ []) (x₀, (x₁, (h, rest))) (s₀ ∷ [], (s₁ ∷ [], (mach h ∷ [], (E₁ .val e₁ ∷ [], tt))))) ∷ []) ∵ join ! $ frame ! $ done !
+    asked : ent 𝓤
+        (onEntry 𝓤 H A (callee-ended .signature) (κ₀, (κ₁, tt)) (q₀, (q₁, tt)) (x₀, (x₁, (h, rest)))
+        (s₀ ∷ [], (s₁ ∷ [], (mach h ∷ [], (E₁ .val e₁ ∷ [], tt))))) (Callee 𝓤 H A .pre to-callee)
+    asked =
+        qed W ((‵ (flft κ₀ q₀) ⊛ ‵ (flft κ₁ q₁) ⊛ ‵ ftrue) ∷
+        ‵ (owns (ShrSlice (named 0) κ₀ u32 ∷ ShrSlice (named 1) κ₁ u32 ∷ R ∷ type-of E₁ ∷ []) (x₀, (x₁, (h, rest)))
+        (s₀ ∷ [], (s₁ ∷ [], (mach h ∷ [], (E₁ .val e₁ ∷ [], tt))))) ∷ []) ∵ join ! $ frame ! $ done !
 
-    goes : ent 𝓤 (⋆ 𝓤 H A (‵ (flft κ₀ q₀) ∷ ‵ (flft κ₁ q₁) ∷ ‵ Own₀ ∷ ‵ Own₁ ∷ ‵ (R .own h (mach h ∷ [])) ∷ [])) (sep 𝓤 (Callee 𝓤 H A .pre to-callee) (sep 𝓤 (sem 𝓤 H A Own₀) (sem 𝓤 H A Own₁)))
-    goes = qed W (‵ (flft κ₀ q₀) ∷ ‵ (flft κ₁ q₁) ∷ ‵ Own₀ ∷ ‵ Own₁ ∷ ‵ (R .own h (mach h ∷ [])) ∷ []) ∵ move ! (2 ∷ []) $ use1 W (‵ Own₀ ⊛ ‵ Own₀) (shr-slice-copy 𝓤 H A W (named 0) κ₀ u32 .twice x₀ (s₀ ∷ [])) $ split ! $ move ! (4 ∷ []) $ use1 W (‵ Own₁ ⊛ ‵ Own₁) (shr-slice-copy 𝓤 H A W (named 1) κ₁ u32 .twice x₁ (s₁ ∷ [])) $ split ! $ nothing ! $ owned ! (type-of E₁) (Is (type-of E₁)) (E₁ .makes 𝓤 H A W) e₁ _ is₁ $ fjoin ! $ move ! (7 ∷ 0 ∷ []) $ fjoin ! $ move ! (1 ∷ 0 ∷ []) $ fjoin ! $ move ! (2 ∷ 0 ∷ []) $ fjoin ! $ nothing ! $ move ! (5 ∷ 0 ∷ []) $ join ! $ move ! (4 ∷ 0 ∷ []) $ join ! $ join ! $ use1 W (raw (Callee 𝓤 H A .pre to-callee)) asked $ frame ! $ move ! (1 ∷ []) $ frame ! $ done !
+    goes : ent 𝓤 (⋆ 𝓤 H A (‵ (flft κ₀ q₀) ∷ ‵ (flft κ₁ q₁) ∷ ‵ Own₀ ∷ ‵ Own₁ ∷ ‵ (R .own h (mach h ∷ [])) ∷ []))
+        (sep 𝓤 (Callee 𝓤 H A .pre to-callee) (sep 𝓤 (sem 𝓤 H A Own₀) (sem 𝓤 H A Own₁)))
+    goes =
+        qed W (‵ (flft κ₀ q₀) ∷ ‵ (flft κ₁ q₁) ∷ ‵ Own₀ ∷ ‵ Own₁ ∷ ‵ (R .own h (mach h ∷ [])) ∷ []) ∵ move ! (2 ∷ []) $
+        use1 W (‵ Own₀ ⊛ ‵ Own₀) (shr-slice-copy 𝓤 H A W (named 0) κ₀ u32 .twice x₀ (s₀ ∷ [])) $ split ! $ move ! (4 ∷ []) $
+        use1 W (‵ Own₁ ⊛ ‵ Own₁) (shr-slice-copy 𝓤 H A W (named 1) κ₁ u32 .twice x₁ (s₁ ∷ [])) $ split ! $ nothing ! $
+        owned ! (type-of E₁) (Is (type-of E₁)) (E₁ .makes 𝓤 H A W) e₁ _ is₁ $ fjoin ! $ move ! (7 ∷ 0 ∷ []) $ fjoin ! $
+        move ! (1 ∷ 0 ∷ []) $ fjoin ! $ move ! (2 ∷ 0 ∷ []) $ fjoin ! $ nothing ! $ move ! (5 ∷ 0 ∷ []) $ join ! $
+        move ! (4 ∷ 0 ∷ []) $ join ! $ join ! $ use1 W (raw (Callee 𝓤 H A .pre to-callee)) asked $ frame ! $
+        move ! (1 ∷ []) $ frame ! $ done !
 
-    exits : (r : returned-type O .Denot) → Q e₁ (x₀ .now) (x₁ .now) h (O .answer r) (O .«record» r) → ent 𝓤 (⋆ 𝓤 H A (‵ (flft κ₀ q₀) ∷ ‵ (flft κ₁ q₁) ∷ ‵ (flft κ₂ q₂) ∷ ‵ (fobs γ (R .coded .code (O .«record» r))) ∷ ‵ (fbor κ₂ (Body (mem R) b o γ)) ∷ (‵ Own₀ ⊛ ‵ Own₁) ∷ ‵ (type-of (O .answer-type) .own (O .answer r) (O .answer-type .val (O .answer r) ∷ [])) ∷ [])) (Post (O .answer-type .val (O .answer r)))
-    exits r e = qed W (‵ (flft κ₀ q₀) ∷ ‵ (flft κ₁ q₁) ∷ ‵ (flft κ₂ q₂) ∷ ‵ (fobs γ (R .coded .code (O .«record» r))) ∷ ‵ (fbor κ₂ (Body (mem R) b o γ)) ∷ (‵ Own₀ ⊛ ‵ Own₁) ∷ ‵ (type-of (O .answer-type) .own (O .answer r) (O .answer-type .val (O .answer r) ∷ [])) ∷ []) ∵ suffices ! _ (ends-at 𝓤 H A thin-ended stayed (thin-clauses 𝓤) W y (O .answer-type .val (O .answer r)) (O .answer r) (tt, (tt, (O .«record» r, (tt, tt)))) (tt, (tt, (tt, (tt, tt))))) $ says ! e $ nothing ! $ move ! (3 ∷ 0 ∷ []) $ join ! $ move ! (2 ∷ 0 ∷ []) $ join ! $ move ! (1 ∷ 0 ∷ []) $ join ! $ frame ! $ move ! (2 ∷ []) $ split ! $ move ! (1 ∷ []) $ nothing ! $ owned ! (type-of E₁) (Is (type-of E₁)) (E₁ .makes 𝓤 H A W) e₁ _ is₁ $ fjoin ! $ move ! (3 ∷ 4 ∷ 0 ∷ []) $ feqI ! (List Val) (vptr b o ∷ []) (vptr b o ∷ []) refl $ fjoin3 ! $ fjoin ! $ move ! (1 ∷ 0 ∷ []) $ fjoin ! $ move ! (1 ∷ 0 ∷ []) $ fjoin ! $ done !
+    exits : (r : returned-type O .Denot) → Q e₁ (x₀ .now) (x₁ .now) h (O .answer r) (O .«record» r)
+        → ent 𝓤 (⋆ 𝓤 H A
+        (‵ (flft κ₀ q₀) ∷ ‵ (flft κ₁ q₁) ∷ ‵ (flft κ₂ q₂) ∷ ‵ (fobs γ (R .coded .code (O .«record» r))) ∷
+        ‵ (fbor κ₂ (Body (mem R) b o γ)) ∷ (‵ Own₀ ⊛ ‵ Own₁) ∷
+        ‵ (type-of (O .answer-type) .own (O .answer r) (O .answer-type .val (O .answer r) ∷ [])) ∷
+        [])) (Post (O .answer-type .val (O .answer r)))
+    exits r e =
+        qed W (‵ (flft κ₀ q₀) ∷ ‵ (flft κ₁ q₁) ∷ ‵ (flft κ₂ q₂) ∷ ‵ (fobs γ (R .coded .code (O .«record» r))) ∷
+        ‵ (fbor κ₂ (Body (mem R) b o γ)) ∷ (‵ Own₀ ⊛ ‵ Own₁) ∷
+        ‵ (type-of (O .answer-type) .own (O .answer r) (O .answer-type .val (O .answer r) ∷ [])) ∷ []) ∵
+        suffices ! _
+        (ends-at 𝓤 H A thin-ended stayed (thin-clauses 𝓤) W y (O .answer-type .val (O .answer r)) (O .answer r)
+        (tt, (tt, (O .«record» r, (tt, tt)))) (tt, (tt, (tt, (tt, tt))))) $ says ! e $ nothing ! $ move ! (3 ∷ 0 ∷ []) $
+        join ! $ move ! (2 ∷ 0 ∷ []) $ join ! $ move ! (1 ∷ 0 ∷ []) $ join ! $ frame ! $ move ! (2 ∷ []) $ split ! $
+        move ! (1 ∷ []) $ nothing ! $ owned ! (type-of E₁) (Is (type-of E₁)) (E₁ .makes 𝓤 H A W) e₁ _ is₁ $ fjoin ! $
+        move ! (3 ∷ 4 ∷ 0 ∷ []) $ feqI ! (List Val) (vptr b o ∷ []) (vptr b o ∷ []) refl $ fjoin3 ! $ fjoin ! $
+        move ! (1 ∷ 0 ∷ []) $ fjoin ! $ move ! (1 ∷ 0 ∷ []) $ fjoin ! $ done !
 
     module _ (C : Calls 𝓤 H) (Λ : Loops 𝓤 H) (fm : FmC 𝓤 H (W .laws) C) (known : Triple 𝓤 (C callee) (Callee 𝓤 H A)) where
-      walk : Room u32 (length (x₀ .now)) → Room u32 (length (x₁ .now)) → ent 𝓤 (onEntry 𝓤 H A (thin-ended .signature) (κ₀, (κ₁, (κ₂, tt))) (q₀, (q₁, (q₂, tt))) a vals) (WpFn 𝓤 H C Λ thin (s₀ ∷ s₁ ∷ vptr b o ∷ E₁ .val e₁ ∷ []) Post)
+      walk : Room u32 (length (x₀ .now)) → Room u32 (length (x₁ .now))
+          → ent 𝓤 (onEntry 𝓤 H A (thin-ended .signature) (κ₀, (κ₁, (κ₂, tt))) (q₀, (q₁, (q₂, tt))) a vals)
+          (WpFn 𝓤 H C Λ thin (s₀ ∷ s₁ ∷ vptr b o ∷ E₁ .val e₁ ∷ []) Post)
       walk room₀ room₁ =
-          qed W ((‵ (flft κ₀ q₀) ⊛ ‵ (flft κ₁ q₁) ⊛ ‵ (flft κ₂ q₂) ⊛ ‵ ftrue) ∷ ‵ (owns (ShrSlice (named 0) κ₀ u32 ∷ ShrSlice (named 1) κ₁ u32 ∷ MutRef (named 2) κ₂ R ∷ type-of E₁ ∷ []) a vals) ∷ []) ∵
-          split ! $ move ! (1 ∷ []) $ split ! $ move ! (1 ∷ []) $ split ! $ move ! (4 ∷ []) $ fsplit ! $ move ! (1 ∷ []) $ fsplit ! $ move ! (1 ∷ []) $ fsplit ! $ fsplit3 ! $ drop ! $ move ! (0 ∷ 1 ∷ 5 ∷ 8 ∷ 7 ∷ 4 ∷ 3 ∷ []) $
+          qed W ((‵ (flft κ₀ q₀) ⊛ ‵ (flft κ₁ q₁) ⊛ ‵ (flft κ₂ q₂) ⊛ ‵ ftrue) ∷
+          ‵ (owns (ShrSlice (named 0) κ₀ u32 ∷ ShrSlice (named 1) κ₁ u32 ∷ MutRef (named 2) κ₂ R ∷ type-of E₁ ∷
+          []) a vals) ∷ []) ∵
+          split ! $ move ! (1 ∷ []) $ split ! $ move ! (1 ∷ []) $ split ! $ move ! (4 ∷ []) $ fsplit ! $ move ! (1 ∷ []) $
+          fsplit ! $ move ! (1 ∷ []) $ fsplit ! $ fsplit3 ! $ drop ! $ move ! (0 ∷ 1 ∷ 5 ∷ 8 ∷ 7 ∷ 4 ∷ 3 ∷ []) $
           -- [seen; borrow; the record's token; the slices' tokens; the slices; …]
           enter ! C Λ thin (s₀ ∷ s₁ ∷ vptr b o ∷ E₁ .val e₁ ∷ []) _ $
-          alloc1 ! (λ l₀. alloc1 ! (λ l₁. alloc1 ! (λ l₂. alloc1 ! (λ l₃. alloc1 ! (λ l₄. alloc1 ! (λ l₅. alloc1 ! (λ l₆. alloc0 ! $ params1 ! $
-          pass1 ! (init ! 10 refl (tt, (tt, (record { fits = room₀ .0 }, tt)))) $ pass1 ! (init ! 8 refl (tt, (tt, (record { fits = room₁ .0 }, tt)))) $ pass1 ! (init ! 6 refl (tt, tt)) $ pass1 ! (init ! 4 refl (E₁ .lawful 𝓤 H A W .typed e₁ _ is₁ .0)) $ pass0 ! $
+          alloc1 ! (λ l₀. alloc1 ! (λ l₁. alloc1 ! (λ l₂. alloc1 ! (λ l₃. alloc1 ! (λ l₄. alloc1 ! (λ l₅. alloc1 ! (λ l₆.
+          alloc0 ! $ params1 ! $
+          pass1 ! (init ! 10 refl (tt, (tt, (record { fits = room₀ .0 }, tt)))) $
+          pass1 ! (init ! 8 refl (tt, (tt, (record { fits = room₁ .0 }, tt)))) $ pass1 ! (init ! 6 refl (tt, tt)) $
+          pass1 ! (init ! 4 refl (E₁ .lawful 𝓤 H A W .typed e₁ _ is₁ .0)) $ pass0 ! $
           -- the borrow of the record is opened, and the record copied
-          move ! (14 ∷ 15 ∷ 16 ∷ []) $ opens ! tt R {h = h} b o (λ vs. spelt ! R (Is R) (shows 𝓤 H A R) (LL.vals T.the-type T′.the-laws) (LL.tells T.the-type T′.the-laws) fullShare h vs b o $
+          move ! (14 ∷ 15 ∷ 16 ∷ []) $ opens ! tt R {h = h} b o (λ vs.
+          spelt ! R (Is R) (shows 𝓤 H A R) (LL.vals T.the-type T′.the-laws)
+          (LL.tells T.the-type T′.the-laws) fullShare h vs b o $
           move ! (1 ∷ []) $ peeks ! R (Is R) (shows 𝓤 H A R) h (mach h ∷ []) (λ g.
           -- [own h; cell; open borrow; seen; right; the locals from 5; the slices' tokens; the slices; …]
-          assigns ! (of-opd ! (load ! (from ! (hop ! (look ! 11 refl) (stop !))) (look-raw ! 1 refl))) (from ! (stop !)) (init ! 5 refl (LL.lawful T.the-type T′.the-laws 𝓤 H A W .typed h _ g .0)) $
-          move ! (19 ∷ 20 ∷ 21 ∷ 22 ∷ 0 ∷ []) $ group ! 5 $ use1 W (raw (Callee 𝓤 H A .pre to-callee) ⊛ ‵ Own₀ ⊛ ‵ Own₁) goes $ split ! $
-          calls-at ! fm (Callee 𝓤 H A) known to-callee (and-then ! (load ! (from ! (stop !)) (look ! 16 refl)) (and-then ! (load ! (from ! (stop !)) (look ! 14 refl)) (and-then ! (load ! (from ! (stop !)) (look ! 6 refl)) (and-then ! (load ! (from ! (stop !)) (look ! 10 refl)) (no-more !))))) (λ w.
-          use1 W (later (some (λ (r : returned-type O .Denot). ((‵ (flft κ₀ q₀) ⊛ ‵ (flft κ₁ q₁) ⊛ ‵ ftrue) ⊛ ‵ (returned-type O .own r (w ∷ []))) ⊛ raw (ensured 𝓤 H A callee-ended (callee-clauses 𝓤) (κ₀, (κ₁, tt)) (x₀, (x₁, (h, rest))) tt r)))) (id⊢ 𝓤 _) $ await ! tt $ pick ! (λ r.
-          split ! $ move ! (1 ∷ []) $ use1 W (some (λ (zs : Unit {0} × (Unit {0} × (Unit {0} × (Unit {0} × (Unit {0}))))). ‵ (lasts callee-ended (κ₀, (κ₁, tt)) (x₀, (x₁, (h, rest))) zs) ⊛ raw (fact 𝓤 (Q e₁ (x₀ .now) (x₁ .now) h (O .answer r) (O .«record» r))))) (id⊢ 𝓤 _) $ pick ! (λ zs.
+          assigns ! (of-opd ! (load ! (from ! (hop ! (look ! 11 refl) (stop !))) (look-raw ! 1 refl))) (from ! (stop !))
+          (init ! 5 refl (LL.lawful T.the-type T′.the-laws 𝓤 H A W .typed h _ g .0)) $
+          move ! (19 ∷ 20 ∷ 21 ∷ 22 ∷ 0 ∷ []) $ group ! 5 $
+          use1 W (raw (Callee 𝓤 H A .pre to-callee) ⊛ ‵ Own₀ ⊛ ‵ Own₁) goes $ split ! $
+          calls-at ! fm (Callee 𝓤 H A) known to-callee
+          (and-then ! (load ! (from ! (stop !)) (look ! 16 refl))
+          (and-then ! (load ! (from ! (stop !)) (look ! 14 refl))
+          (and-then ! (load ! (from ! (stop !)) (look ! 6 refl))
+          (and-then ! (load ! (from ! (stop !)) (look ! 10 refl)) (no-more !))))) (λ w.
+          use1 W (later
+          (some (λ (r : returned-type O .Denot).
+          ((‵ (flft κ₀ q₀) ⊛ ‵ (flft κ₁ q₁) ⊛ ‵ ftrue) ⊛ ‵ (returned-type O .own r (w ∷ []))) ⊛
+          raw (ensured 𝓤 H A callee-ended (callee-clauses 𝓤) (κ₀, (κ₁, tt)) (x₀, (x₁, (h, rest))) tt r)))) (id⊢ 𝓤 _) $
+          await ! tt $ pick ! (λ r.
+          split ! $ move ! (1 ∷ []) $
+          use1 W (some
+          (λ (zs : Unit {0} × (Unit {0} × (Unit {0} × (Unit {0} × (Unit {0}))))).
+          ‵ (lasts callee-ended (κ₀, (κ₁, tt)) (x₀, (x₁, (h, rest))) zs) ⊛
+          raw (fact 𝓤 (Q e₁ (x₀ .now) (x₁ .now) h (O .answer r) (O .«record» r))))) (id⊢ 𝓤 _) $ pick ! (λ zs.
           split ! $ move ! (1 ∷ []) $ heard ! (Q e₁ (x₀ .now) (x₁ .now) h (O .answer r) (O .«record» r)) (λ e.
           fsplit ! $ drop ! $
           fsplit ! $ drop ! $
-          move ! (1 ∷ []) $ split ! $ move ! (1 ∷ []) $ peeks ! (returned-type O) (Is (returned-type O)) (shows 𝓤 H A (returned-type O)) r (w ∷ []) (λ is.
+          move ! (1 ∷ []) $ split ! $ move ! (1 ∷ []) $
+          peeks ! (returned-type O) (Is (returned-type O)) (shows 𝓤 H A (returned-type O)) r (w ∷ []) (λ is.
           -- [own r; the slices' tokens; …; the last lists; the `&` slices; cell; open borrow; seen; right; the locals from 8]
-          land ! (from ! (stop !)) (init ! 10 refl (O .lawful 𝓤 H A W .typed r _ is .0)) $ rewrite ! 10 (λ (u : Val). ‵ (fat fullShare (returned-mir O) l₅ 0 u)) (ap only (O .tells r _ is)) refl $
-          assigns ! (of-opd ! (load ! (from ! (fld ! refl (stop !))) (look-in ! 10 (sub ! 1 refl (whole !))))) (from ! (hop ! (look ! 14 refl) (stop !))) (store-raw ! 4 refl (LL.lawful T.the-type T′.the-laws 𝓤 H A W .typed (O .«record» r) (mach (O .«record» r) ∷ []) (O .record-is r _ is) .0)) $
-          assigns ! (of-opd ! (load ! (from ! (fld ! refl (stop !))) (look-in ! 10 (sub ! 0 refl (whole !))))) (from ! (stop !)) (init ! 20 refl (O .answer-type .lawful 𝓤 H A W .typed (O .answer r) (O .answer-type .val (O .answer r) ∷ []) (O .answer-is r _ is) .0)) $
-          drop ! $ owned ! R (Is R) (LL.makes T.the-type T′.the-plain 𝓤 H A) (O .«record» r) (mach (O .«record» r) ∷ []) (O .record-is r _ is) $
+          land ! (from ! (stop !)) (init ! 10 refl (O .lawful 𝓤 H A W .typed r _ is .0)) $
+          rewrite ! 10 (λ (u : Val). ‵ (fat fullShare (returned-mir O) l₅ 0 u)) (ap only (O .tells r _ is)) refl $
+          assigns ! (of-opd ! (load ! (from ! (fld ! refl (stop !))) (look-in ! 10 (sub ! 1 refl (whole !)))))
+          (from ! (hop ! (look ! 14 refl) (stop !)))
+          (store-raw ! 4 refl
+          (LL.lawful T.the-type T′.the-laws 𝓤 H A W .typed (O .«record» r) (mach (O .«record» r) ∷ [])
+          (O .record-is r _ is) .0)) $
+          assigns ! (of-opd ! (load ! (from ! (fld ! refl (stop !))) (look-in ! 10 (sub ! 0 refl (whole !)))))
+          (from ! (stop !))
+          (init ! 20 refl
+          (O .answer-type .lawful 𝓤 H A W .typed (O .answer r) (O .answer-type .val (O .answer r) ∷ [])
+          (O .answer-is r _ is) .0)) $
+          drop ! $ owned ! R (Is R) (LL.makes T.the-type T′.the-plain 𝓤 H A) (O .«record» r) (mach (O .«record» r) ∷ [])
+          (O .record-is r _ is) $
           move ! (4 ∷ 0 ∷ 5 ∷ 6 ∷ 7 ∷ []) $ closes ! tt R (O .«record» r) (mach (O .«record» r) ∷ []) b o $
           -- [seen; borrow; the record's token; the slices' tokens; …; the last lists; the `&` slices; the locals from 6]
-          returns ! (look ! 18 refl) $ forget ! 6 refl $ forget ! 8 refl $ forget ! 10 refl $ forget ! 12 refl $ forget ! 14 refl $ forget ! 16 refl $ forget ! 18 refl $
-          move ! (18 ∷ 19 ∷ []) $ free1 ! $ move ! (16 ∷ 17 ∷ []) $ free1 ! $ move ! (14 ∷ 15 ∷ []) $ free1 ! $ move ! (12 ∷ 13 ∷ []) $ free1 ! $ move ! (10 ∷ 11 ∷ []) $ free1 ! $ move ! (8 ∷ 9 ∷ []) $ free1 ! $ move ! (6 ∷ 7 ∷ []) $ free1 ! $ free0 ! $
-          move ! (3 ∷ []) $ split ! $ move ! (1 ∷ []) $ split ! $ owned ! (type-of (O .answer-type)) (Is (type-of (O .answer-type))) (O .answer-type .makes 𝓤 H A W) (O .answer r) (O .answer-type .val (O .answer r) ∷ []) (O .answer-is r _ is) $
+          returns ! (look ! 18 refl) $ forget ! 6 refl $ forget ! 8 refl $ forget ! 10 refl $ forget ! 12 refl $
+          forget ! 14 refl $ forget ! 16 refl $ forget ! 18 refl $
+          move ! (18 ∷ 19 ∷ []) $ free1 ! $ move ! (16 ∷ 17 ∷ []) $ free1 ! $ move ! (14 ∷ 15 ∷ []) $ free1 ! $
+          move ! (12 ∷ 13 ∷ []) $ free1 ! $ move ! (10 ∷ 11 ∷ []) $ free1 ! $ move ! (8 ∷ 9 ∷ []) $ free1 ! $
+          move ! (6 ∷ 7 ∷ []) $ free1 ! $ free0 ! $
+          move ! (3 ∷ []) $ split ! $ move ! (1 ∷ []) $ split ! $
+          owned ! (type-of (O .answer-type)) (Is (type-of (O .answer-type))) (O .answer-type .makes 𝓤 H A W)
+          (O .answer r) (O .answer-type .val (O .answer r) ∷ []) (O .answer-is r _ is) $
           keep ! (3 ∷ 1 ∷ 6 ∷ 4 ∷ 5 ∷ 8 ∷ 0 ∷ []) $ by ! (exits r e)))))))))))))))
 
   module _ {M : Type 1} (𝓤 : URA M) (H : Heap 𝓤) (A : Atoms 𝓤) (W : Given 𝓤 H A) where
-    walks : (C : Calls 𝓤 H) (Λ : Loops 𝓤 H) → FmC 𝓤 H (W .laws) C → Triple 𝓤 (C callee) (Callee 𝓤 H A) → Walks 𝓤 H A thin-ended stayed (WpFn 𝓤 H C Λ thin) (thin-clauses 𝓤)
-    walks C Λ fm known = walked 𝓤 H A thin-ended stayed (thin-clauses 𝓤) (WpFn 𝓤 H C Λ thin) (λ κs. (slice-vals, (slice-vals, (ptr-vals, ((λ x. E₁ .val x ∷ []), tt))))) (λ κs. (shr-slice-tells (named 0) (κs .0) u32, (shr-slice-tells (named 1) (κs .1 .0) u32, (mut-tells (named 2) (κs .1 .1 .0) R, (E₁ .tells, tt)))))
-        (λ κs qs bounds a g are. via 𝓤 _ (fst∗ 𝓤 _ (emp 𝓤)) (walk 𝓤 H A W (κs .0) (κs .1 .0) (κs .1 .1 .0) (qs .0) (qs .1 .0) (qs .1 .1 .0) (a .0) (a .1 .0) (a .1 .1 .0 .ptr .0) (a .1 .1 .0 .ptr .1) (a .1 .1 .0 .name) (a .1 .1 .0 .now) (a .1 .1 .1 .0) (are .1 .1 .1 .0) C Λ fm known (are .0 .0 .1) (are .1 .0 .0 .1)))
+    walks : (C : Calls 𝓤 H) (Λ : Loops 𝓤 H) → FmC 𝓤 H (W .laws) C → Triple 𝓤 (C callee) (Callee 𝓤 H A)
+        → Walks 𝓤 H A thin-ended stayed (WpFn 𝓤 H C Λ thin) (thin-clauses 𝓤)
+    walks C Λ fm known =
+        walked 𝓤 H A thin-ended stayed (thin-clauses 𝓤) (WpFn 𝓤 H C Λ thin)
+        (λ κs. (slice-vals, (slice-vals, (ptr-vals, ((λ x. E₁ .val x ∷ []), tt)))))
+        (λ κs. (
+          shr-slice-tells (named 0) (κs .0) u32,
+          (shr-slice-tells (named 1) (κs .1 .0) u32, (mut-tells (named 2) (κs .1 .1 .0) R, (E₁ .tells, tt))),
+        ))
+        (λ κs qs bounds a g are.
+        via 𝓤 _ (fst∗ 𝓤 _ (emp 𝓤))
+        (walk 𝓤 H A W (κs .0) (κs .1 .0) (κs .1 .1 .0) (qs .0) (qs .1 .0) (qs .1 .1 .0) (a .0) (a .1 .0)
+        (a .1 .1 .0 .ptr .0) (a .1 .1 .0 .ptr .1) (a .1 .1 .0 .name) (a .1 .1 .0 .now) (a .1 .1 .1 .0)
+        (are .1 .1 .1 .0) C Λ fm known (are .0 .0 .1) (are .1 .0 .0 .1)))
 
-    pub thin-meets : (𝓣 : Tables 𝓤 H) → Triple 𝓤 (𝓣 .C callee) (Callee 𝓤 H A) → Meets 𝓤 H A (thin-ended .signature) (WpFn 𝓤 H (𝓣 .C) (𝓣 .Λ) thin) (closing 𝓤 H A thin-ended (thin-clauses 𝓤))
-    thin-meets 𝓣 known = walk-meets 𝓤 H A thin-ended stayed W (goes-none-slice 𝓤 H A W 3 (0 ∷ []) tt (plain (λ _. u32)) yes, (goes-none-slice 𝓤 H A W 3 (1 ∷ []) tt (plain (λ _. u32)) yes, (goes-ref 𝓤 H A W 3 2 tt (plain (λ _. R)), (goes-none 𝓤 H A W 3 (λ _. type-of E₁) yes (λ κs x f. refl), tt)))) (thin-clauses 𝓤) (WpFn 𝓤 H (𝓣 .C) (𝓣 .Λ) thin) (WpFn-mono 𝓤 H (W .laws) 𝓣 thin) (walks (𝓣 .C) (𝓣 .Λ) (fmOf 𝓤 H (W .laws) 𝓣) known)
+    pub thin-meets : (𝓣 : Tables 𝓤 H) → Triple 𝓤 (𝓣 .C callee) (Callee 𝓤 H A)
+        → Meets 𝓤 H A (thin-ended .signature) (WpFn 𝓤 H (𝓣 .C) (𝓣 .Λ) thin) (closing 𝓤 H A thin-ended (thin-clauses 𝓤))
+    thin-meets 𝓣 known =
+        walk-meets 𝓤 H A thin-ended stayed W (
+          goes-none-slice 𝓤 H A W 3 (0 ∷ []) tt (plain (λ _. u32)) yes,
+          (
+            goes-none-slice 𝓤 H A W 3 (1 ∷ []) tt (plain (λ _. u32)) yes,
+            (goes-ref 𝓤 H A W 3 2 tt (plain (λ _. R)), (goes-none 𝓤 H A W 3 (λ _. type-of E₁) yes (λ κs x f. refl), tt)),
+          ),
+        )
+        (thin-clauses 𝓤) (WpFn 𝓤 H (𝓣 .C) (𝓣 .Λ) thin) (WpFn-mono 𝓤 H (W .laws) 𝓣 thin)
+        (walks (𝓣 .C) (𝓣 .Λ) (fmOf 𝓤 H (W .laws) 𝓣) known)

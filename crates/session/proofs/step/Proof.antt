@@ -112,7 +112,9 @@ same-length-4 c = search needs
 
 returns-2 : tie.Need-returns-2
 unfolding step
-returns-2 c = rw (c .before .before .before .before .before .enum-told2 .given .1) (c .before .before .check .ensures)
+returns-2 c =
+    let called = c .before .before in
+    rw (called .before .before .before .enum-told2 .given .1) (called .check .ensures)
 
 same-length-5 : tie.Need-same-length-5
 same-length-5 c = search needs
@@ -148,7 +150,9 @@ same-length-10 c = search needs
 
 returns-5 : tie.Need-returns-5
 unfolding step
-returns-5 c = rw (c .before .before .before .before .before .before .call3 .given .1) (c .before .before .set-null .ensures)
+returns-5 c =
+    let called = c .before .before in
+    rw (called .before .before .before .before .call3 .given .1) (called .set-null .ensures)
 
 same-length-11 : tie.Need-same-length-11
 same-length-11 c = search needs
@@ -158,7 +162,9 @@ same-length-12 c = search needs
 
 returns-6 : tie.Need-returns-6
 unfolding step
-returns-6 c = rw (c .before .before .before .before .before .before .call4 .given .1) (c .before .before .copy .ensures)
+returns-6 c =
+    let called = c .before .before in
+    rw (called .before .before .before .before .call4 .given .1) (called .copy .ensures)
 
 same-length-13 : tie.Need-same-length-13
 same-length-13 c = search needs
@@ -168,7 +174,9 @@ same-length-14 c = search needs
 
 returns-7 : tie.Need-returns-7
 unfolding step
-returns-7 c = rw (c .before .before .before .before .before .before .call5 .given .1) (c .before .before .load .ensures)
+returns-7 c =
+    let called = c .before .before in
+    rw (called .before .before .before .before .call5 .given .1) (called .load .ensures)
 
 same-length-15 : tie.Need-same-length-15
 same-length-15 c = search needs
@@ -178,7 +186,9 @@ same-length-16 c = search needs
 
 returns-8 : tie.Need-returns-8
 unfolding step
-returns-8 c = rw (c .before .before .before .before .before .before .call6 .given .1) (c .before .before .store .ensures)
+returns-8 c =
+    let called = c .before .before in
+    rw (called .before .before .before .before .call6 .given .1) (called .store .ensures)
 
 same-length-17 : tie.Need-same-length-17
 same-length-17 c = search needs
@@ -198,7 +208,9 @@ same-length-20 c = search needs
 
 returns-10 : tie.Need-returns-10
 unfolding step
-returns-10 c = rw (c .before .before .before .before .before .before .call8 .given .1) (c .before .before .raw-write .ensures)
+returns-10 c =
+    let called = c .before .before in
+    rw (called .before .before .before .before .call8 .given .1) (called .raw-write .ensures)
 
 same-length-21 : tie.Need-same-length-21
 same-length-21 c = search needs

@@ -30,9 +30,7 @@ shape c = sym (c .before .bad-shape .ensures) ∙ c .if1 .left
 
 named : (c : tie.Else3) → let s = c .before .before .before .before .before .before .before .before in
     names tuple (start s) (rootWord (start s) (s .args .object)) ≡ true
-named c =
-    let s = c .before .before .before .before .before .before .before .before in
-    sym (c .before .names .ensures (s .args .roots .now)) ∙ not-false _ (c .if3 .left)
+named c = sym (c .before .names .ensures _) ∙ not-false _ (c .if3 .left)
 
 below : (c : tie.After-index-of) → let s = c .before .before .before .before .before .before .before .before .before in
     c .index-of .result .0 < length (s .args .heap .now)
