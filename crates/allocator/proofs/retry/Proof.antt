@@ -55,9 +55,9 @@ spare-of-requires c κs = may-spare _ (left-shaped tuple _ (checked c) _ (left c
 place-requires : tie.Need-place-requires
 place-requires c κs =
     let roomy = c .before .before in
-    let a = roomy .before .before in
-    may-place _ _ _ (left-shaped tuple _ (checked a) _ (left a))
-    (omega (arith, left-roots tuple _ (checked a) _ (left a), origin a .pre .1)) (origin a .pre .0)
+    let after = roomy .before .before in
+    may-place _ _ _ (left-shaped tuple _ (checked after) _ (left after))
+    (omega (arith, left-roots tuple _ (checked after) _ (left after), origin after .pre .1)) (origin after .pre .0)
     (omega (arith, roomy .before .spare-of .ensures, roomy .if2 .taken))
 
 same-length : tie.Need-same-length
@@ -70,8 +70,8 @@ returns : tie.Need-returns
 returns c =
     let placed = c .before .before .before .before in
     let roomy = placed .before .before .before in
-    let a = roomy .before .before in
-    retried-done tuple _ _ _ _ (checked a) _ (left a) _
+    let after = roomy .before .before in
+    retried-done tuple _ _ _ _ (checked after) _ (left after) _
     (roomy .before .spare-of .ensures) (roomy .if2 .taken) _ (placed .place .ensures)
 
 same-length-3 : tie.Need-same-length-3
@@ -82,8 +82,8 @@ same-length-4 c = search needs
 
 returns-2 : tie.Need-returns-2
 returns-2 c =
-    let a = c .before .before in
-    retried-room tuple _ _ _ _ (checked a) _ (left a) _ (c .before .spare-of .ensures) (c .if2 .left)
+    let after = c .before .before in
+    retried-room tuple _ _ _ _ (checked after) _ (left after) _ (c .before .spare-of .ensures) (c .if2 .left)
 
 same-length-5 : tie.Need-same-length-5
 same-length-5 c = search needs

@@ -18,7 +18,7 @@ first-of-requires c κs = search needs
 add-result : tie.Need-add-result
 add-result c =
     let s = c .before in
-    let least = first-most ((s .args .words - 1) / 2) (s .args .«record» .half) in
+    let most = first-most ((s .args .words - 1) / 2) (s .args .«record» .half) in
     omega (arith, c .first-of .ensures, s .pre .few)
 
 sub-result : tie.Need-sub-result

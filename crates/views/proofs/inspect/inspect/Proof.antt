@@ -110,13 +110,13 @@ say-requires-5 c κs = search needs
 
 returns-5 : tie.Need-returns-5
 returns-5 c =
-    let odd = c .before .before .before .before in
-    let rooted = odd .before .before in
+    let even = c .before .before .before .before in
+    let rooted = even .before .before in
     let shaped = rooted .before in
     let s = shaped .before .before .before .before in
     said _ _ (c .say5 .ensures)
     (inspect-nothing _ (start s) _ (shape shaped)
-    (rooted .if2 .left) (odd .if3 .left) (c .before .before .before .if4 .left)
+    (rooted .if2 .left) (even .if3 .left) (c .before .before .before .if4 .left)
     (sym (c .before .before .names .ensures (s .args .roots .now)) ∙ not-true _ (c .before .if5 .taken)))
 
 index-of-requires : tie.Need-index-of-requires
@@ -144,13 +144,13 @@ returns-6 : tie.Need-returns-6
 returns-6 c =
     let indexed = c .before .before .before .before in
     let object = indexed .before in
-    let word = object .before .before in
-    let odd = word .before in
-    let rooted = odd .before .before in
+    let held = object .before .before in
+    let even = held .before in
+    let rooted = even .before .before in
     let shaped = rooted .before in
     said _ _ (c .say6 .ensures)
     (inspect-object _ (start (shaped .before .before .before .before)) _ (shape shaped)
-    (rooted .if2 .left) (odd .if3 .left) (word .if4 .left) _ _ _
+    (rooted .if2 .left) (even .if3 .left) (held .if4 .left) _ _ _
     (indexed .index-of .ensures) (c .before .before .kind-of .ensures) (c .before .count-of .ensures .0) (named object))
 
 pub inspect-spec : {M : Type 1} → statement M
