@@ -32,8 +32,8 @@ fits-requires c κs = search needs
 
 -- past its test, the object fits
 fitted : (c : tie.Then1) → let s = c .before .before .before .before .before in
-    atOnce (length (s .args .heap .now)) (length (s .args .roots .now)) (c .before .before .record-of .result) (s .args .fields) (s .args .to)
-    ≡ true
+    atOnce (length (s .args .heap .now)) (length (s .args .roots .now)) (c .before .before .record-of .result)
+    (s .args .fields) (s .args .to) ≡ true
 fitted c = sym (c .before .fits2 .ensures) ∙ c .if1 .taken
 
 allocate-requires : tie.Need-allocate-requires

@@ -27,7 +27,8 @@ same-length-2 c = search needs
 returns : tie.Need-returns
 returns c =
     let s = c .before .before .before .before .before .before .before .before .before in
-    rw (at-once-done tuple (s .args .kind) (s .args .fields) (s .args .to) (start s) (s .pre), ← (c .before .before .before .before .place .ensures))
+    let placed = c .before .before .before .before in
+    rw (at-once-done tuple (s .args .kind) (s .args .fields) (s .args .to) (start s) (s .pre), ← (placed .place .ensures))
 
 pub allocate-spec : {M : Type 1} → statement M
 allocate-spec = tie.close (tie.spec place-requires same-length same-length-2 returns)
