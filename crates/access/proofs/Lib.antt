@@ -1,5 +1,3 @@
 pub mod Refusing
-pub mod Signs
-pub mod TaggedIntegers
 pub mod RootNumbers
 pub mod FreshHeap

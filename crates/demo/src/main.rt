@@ -1,8 +1,8 @@
 // Builds P5 of document 01 by calls, collects it, and prints what is left.
 use access::fresh::fresh;
-use access::set_integer::set_integer;
 use allocator::allocate;
 use collector::collect;
+use integers::set_integer::set_integer;
 use model::Answer;
 use model::Half;
 use model::Index;

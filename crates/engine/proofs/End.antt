@@ -24,7 +24,7 @@ use Rattle.model.proofs.During.{order-heads, order-room, end-word, end-roots, e
 use Rattle.model.proofs.Middle.{halves-ordered, stage-null}
 use Rattle.runs.specs.Runs.{cleared}
 use Rattle.runs.proofs.RunLaws.{cleared-length, cleared-inside, cleared-outside}
-use Rattle.engine.specs.Scanning.{between}
+use Rattle.scanning.specs.Scanning.{between}
 use Rattle.engine.specs.Evacuation.{Emptied, rooted, evacuated, SafeEvacuation}
 use Rattle.engine.specs.Middle.{stateAfter}
 use Rattle.engine.proofs.Slices.{safe-roots, after-roots, scan-starts, safe-slice}

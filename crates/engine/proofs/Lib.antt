@@ -1,6 +1,3 @@
-pub mod PassingLaws
-pub mod RunLaws
-pub mod ObjectLaws
 pub mod RootLaws
 pub mod Midway
 pub mod Renaming

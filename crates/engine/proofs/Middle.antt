@@ -26,7 +26,7 @@ use Rattle.model.proofs.Collected.{live-is}
 use Rattle.model.proofs.Stage.{stage-passed, stage-coming, stage-rest, stage-header, stage-kept, stage-length}
 use Rattle.model.proofs.During.{rename-stable, order-heads, order-room, root-found, ended}
 use Rattle.model.proofs.Middle.{halves-ordered, stage-null, order-later, during-still}
-use Rattle.engine.specs.Scanning.{Scan, between, run}
+use Rattle.scanning.specs.Scanning.{Scan, between, run}
 use Rattle.engine.specs.Evacuation.{Emptied, rooted, scanned}
 use Rattle.engine.specs.Middle.{stateAfter, placeAfter, Middle}
 use Rattle.engine.proofs.Midway.{Midway}

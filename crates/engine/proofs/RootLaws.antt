@@ -9,7 +9,7 @@ use lib.Seq.{take-suc-set, drop-set-lt, drop-cons, append-snoc, drop-length, tak
 use Rattle.model.specs.Headers.{Layout}
 use Rattle.runs.specs.Runs.{cleared}
 use Rattle.moving.specs.Moving.{Left, renamed, MayRename}
-use Rattle.engine.specs.Scanning.{Freed, freed, ended, between, run, SafeRun}
+use Rattle.scanning.specs.Scanning.{Freed, freed, ended, between, run, SafeRun}
 use Rattle.engine.specs.Evacuation.{Emptied, emptied, rootFirst, rooted, SafeRoots, scanned, evacuated, SafeEvacuation}
 use Rattle.moving.proofs.MovingLaws.{renamed-length}
 

@@ -23,9 +23,9 @@ use Rattle.model.proofs.Values.{leads-address, value-header}
 use Rattle.model.proofs.During.{rename-stable, order-step}
 use Rattle.model.proofs.Middle.{distinct-fits}
 use Rattle.moving.specs.Moving.{renamed}
-use Rattle.engine.specs.Scanning.{Scan, between, After, passed, run, MayPass, SafeRun}
+use Rattle.scanning.specs.Scanning.{Scan, between, After, passed, run, MayPass, SafeRun}
 use Rattle.engine.specs.Evacuation.{Emptied, rooted, SafeRoots}
-use Rattle.engine.proofs.RunLaws.{run-done, run-step}
+use Rattle.scanning.proofs.RunLaws.{run-done, run-step}
 use Rattle.engine.proofs.Midway.{Midway}
 use Rattle.engine.proofs.Renaming.{renames}
 use Rattle.engine.proofs.Passing.{Scans, turn}

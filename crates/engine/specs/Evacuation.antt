@@ -5,7 +5,7 @@ use lib.ListN.{length}
 use Rattle.model.specs.Headers.{Layout}
 use Rattle.runs.specs.Runs.{cleared}
 use Rattle.moving.specs.Moving.{renamed, MayRename}
-use Rattle.engine.specs.Scanning.{After, between, run, SafeRun}
+use Rattle.scanning.specs.Scanning.{After, between, run, SafeRun}
 
 -- what is left: the heap, the roots, and the next free word
 pub record Emptied : Type 0 where

@@ -9,9 +9,6 @@ ghost use Rattle.model.specs.Collection.{live, collected};
 ghost use Rattle.model.specs.Answers.{says};
 ghost use Rattle.model.specs.declared.Answer.the-variants as Says;
 ghost use Rattle.engine.specs.Evacuation.{emptied, rooted, SafeRoots, evacuated, SafeEvacuation};
-
-mod scanning;
-
 use model::Index;
 use model::Record;
 use words::shape;

@@ -18,7 +18,7 @@ pub fn set_integer(
 ) -> Answer
     ensures { λ r. ⌜ says r (lent (now (heap .entry)) (now (roots .exit)) (now («record» .exit))) ≡ Calls.setInteger to value (lent (now (heap .entry)) (now (roots .entry)) (now («record» .entry))) ⌝ }
 {
-    let answered = access::set_integer::set_integer(heap, roots, *record, to, value);
+    let answered = integers::set_integer::set_integer(heap, roots, *record, to, value);
     *record = answered.record;
     answered.answer
 }

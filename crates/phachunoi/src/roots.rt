@@ -24,7 +24,7 @@ pub extern "C" fn phachunoi_set_integer(
 ) -> CResult
     ensures { λ r. ⌜ given r (now (heap .entry)) (now (roots .exit)) ≡ called Numbers.result (Calls.setInteger to value) (now (heap .entry)) (now (roots .entry)) «record» ⌝ }
 {
-    let done = access::set_integer::set_integer(heap, roots, record_of(record), to, value);
+    let done = integers::set_integer::set_integer(heap, roots, record_of(record), to, value);
     result(record, done)
 }
 

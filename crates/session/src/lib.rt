@@ -17,7 +17,7 @@ pub fn step(heap: &mut [u32], roots: &mut [u32], record: Record, call: Call) -> 
         Call::Collect => collect(heap, roots, record),
         Call::Check => checker::check(heap, roots, record),
         Call::Allocate { kind, fields, to } => allocate(heap, roots, record, kind, fields, to),
-        Call::SetInteger { to, value } => access::set_integer::set_integer(
+        Call::SetInteger { to, value } => integers::set_integer::set_integer(
             heap,
             roots,
             record,

@@ -5,7 +5,7 @@ ghost use Rattle.model.specs.Headers as Layouts;
 ghost use Rattle.model.specs.Answers.{outcome};
 ghost use Rattle.model.specs.Calls as Calls;
 use access::answers::say;
-use access::integers::untag;
+use integers::untag;
 use model::Address;
 use model::Answer;
 use model::Answered;

@@ -14,7 +14,7 @@ use Rattle.objects.proofs.store.Reads as store-reads
 use Rattle.views.proofs.inspect.inspect.Reads as inspect-reads
 use Rattle.access.proofs.roots.copy.Reads as copy-reads
 use Rattle.access.proofs.roots.same.Reads as same-reads
-use Rattle.access.proofs.set_integer.set_integer.Reads as set-integer-reads
+use Rattle.integers.proofs.set_integer.set_integer.Reads as set-integer-reads
 use Rattle.access.proofs.roots.set_null.Reads as set-null-reads
 use Rattle.checker.proofs.check.Reads as check-reads
 use Rattle.allocator.proofs.allocate.Reads as allocate-reads

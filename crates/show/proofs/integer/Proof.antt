@@ -1,6 +1,6 @@
 -- `show::integer` ends and overflows nowhere.
 use native.Mathlib.Omega.{arith}
-use Rattle.access.proofs.Signs.{negative, natural, down, below-is, size-is}
+use Rattle.integers.proofs.Signs.{negative, natural, down, below-is, size-is}
 use borrow.Author.Needs.{needs}
 use Rattle.show.proofs.integer.Statement.{statement}
 use Rattle.show.proofs.integer.Tie as tie

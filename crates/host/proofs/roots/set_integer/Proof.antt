@@ -8,10 +8,10 @@ use Rattle.model.specs.Answers.{says}
 use Rattle.model.specs.Calls as Calls
 use Rattle.host.proofs.ByValueTypes.{answered, i64-by-value, usize-by-value}
 use Rattle.host.proofs.ThinRoots2 as walk
-use Rattle.access.proofs.set_integer.set_integer as callee
-use Rattle.access.proofs.set_integer.set_integer.Symbol as callee-def
-use Rattle.access.proofs.set_integer.set_integer.Symbol.{name as #callee}
-use Rattle.access.proofs.set_integer.set_integer.Met as callee-thm
+use Rattle.integers.proofs.set_integer.set_integer as callee
+use Rattle.integers.proofs.set_integer.set_integer.Symbol as callee-def
+use Rattle.integers.proofs.set_integer.set_integer.Symbol.{name as #callee}
+use Rattle.integers.proofs.set_integer.set_integer.Met as callee-thm
 use Rattle.host.proofs.roots.set_integer.Key.{name as #self}
 use Rattle.host.proofs.roots.set_integer as self
 use Rattle.host.proofs.roots.set_integer.Statement as stated
@@ -27,4 +27,4 @@ set-integer-spec 𝓤 H 𝓜 𝓖 𝓡 =
     says a (lent heap roots′ q′) ≡ Calls.setInteger to value (lent heap roots q))
     #callee 𝓤 H (𝓖 .A) (givenOf 𝓤 H 𝓜 𝓖) (tablesOf 𝓤 H 𝓜 (tables 𝓤 H 𝓜 𝓡 code.env))
     (cited 𝓤 H (tripleOf 𝓤 H (𝓖 .A) callee.signature (callee.spec 𝓤 H (𝓖 .A) (𝓜 .mem) (𝓡 .run)))
-    𝓜 𝓡 code.env #callee callee-def.routine code.calls-access·set-integer·set-integer (callee-thm.met 𝓤 H 𝓜 𝓖 𝓡)))
+    𝓜 𝓡 code.env #callee callee-def.routine code.calls-integers·set-integer·set-integer (callee-thm.met 𝓤 H 𝓜 𝓖 𝓡)))

@@ -11,7 +11,7 @@ use Rattle.phachunoi.proofs.roots.phachunoi_set_integer.Statement.{stat
 use Rattle.phachunoi.proofs.roots.phachunoi_set_integer.Tie as tie
 use Rattle.phachunoi.proofs.roots.phachunoi_set_integer.Reads as reads
 use Rattle.phachunoi.proofs.roots.phachunoi_set_integer.Lts as lts
-use Rattle.access.proofs.set_integer.set_integer.Reads as set-integer-reads
+use Rattle.integers.proofs.set_integer.set_integer.Reads as set-integer-reads
 use Rattle.crossing.proofs.record_of.Reads as record-of-reads
 use Rattle.crossing.proofs.result.Reads as result-reads
 

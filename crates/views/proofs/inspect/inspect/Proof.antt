@@ -22,7 +22,7 @@ use Rattle.views.proofs.inspect.inspect.Tie as tie
 use Rattle.views.proofs.inspect.inspect.Reads as reads
 use Rattle.views.proofs.inspect.inspect.Lts as lts
 use Rattle.access.proofs.answers.say.Reads as say-reads
-use Rattle.access.proofs.integers.untag.Reads as untag-reads
+use Rattle.integers.proofs.untag.Reads as untag-reads
 use Rattle.naming.proofs.names.Reads as names-reads
 use Rattle.words.proofs.shape.bad_shape.Reads as bad-shape-reads
 use Rattle.words.proofs.tuple.Tuple.count_of.Reads as count-of-reads

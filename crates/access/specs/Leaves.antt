@@ -1,9 +1,0 @@
--- What the leaf below set_integer answers: the word of an integer, or that there is none.
-use mathlib.Core.Bool.{cond}
-use lib.IntN.{ℤ}
-use Rattle.model.specs.Values.{inRange, tag}
-use Rattle.access.specs.declared.integers.Tagged.{Tagged}
-use Rattle.access.specs.declared.integers.Tagged.the-variants.{Word, OutOfRange}
-
-unfoldable pub tagged : ℤ → Tagged
-tagged v = cond (inRange v) (Word (tag v)) OutOfRange

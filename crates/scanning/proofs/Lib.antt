@@ -1,0 +1,3 @@
+pub mod PassingLaws
+pub mod RunLaws
+pub mod ObjectLaws
