@@ -11,15 +11,15 @@ use Rattle.model.specs.declared.Answered.{Answered}
 use Rattle.model.specs.Words.{State, lent}
 use Rattle.model.specs.Answers.{Outcome, says, outcome, refuse}
 
-pub said : {r : Answered} {a : Answer} {q : Record} {o : Outcome} (H R : List ℕ)
+pub said : {r : Answered} {a : Answer} {q : Record} {o : Outcome State} (H R : List ℕ)
     → r ≡ record { answer = a; «record» = q } → says a (lent H R q) ≡ o → outcome r H R ≡ o
 said H R e f = ap (λ (x : Answered). outcome x H R) e ∙ f
 
 -- a refusal whose test holds is given; one whose test fails leaves what follows
-pub applies : {b : Bool} {k : Refusal} {s : State} (next : Outcome) → b ≡ true → says (Says.Refused k) s ≡ refuse b k s next
+pub applies : {b : Bool} {k : Refusal} {s : State} (next : Outcome State) → b ≡ true → says (Says.Refused k) s ≡ refuse b k s next
 unfolding refuse
 applies next e = rw e
 
-pub passes : {b : Bool} {next x : Outcome} (k : Refusal) (s : State) → b ≡ false → x ≡ next → x ≡ refuse b k s next
+pub passes : {b : Bool} {next x : Outcome State} (k : Refusal) (s : State) → b ≡ false → x ≡ next → x ≡ refuse b k s next
 unfolding refuse
 passes k s e f = rw e f

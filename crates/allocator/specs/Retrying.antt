@@ -12,7 +12,7 @@ use Rattle.model.specs.Answers.{Outcome, says, refuse}
 use Rattle.model.specs.Changes.{fits, placed}
 
 -- the collection, and another try
-unfoldable pub retried : Layout → Kind → ℕ → ℕ → State → Outcome
+unfoldable pub retried : Layout → Kind → ℕ → ℕ → State → Outcome State
 retried Y k n r s =
     refuse (not (sound Y s)) Why.Damaged s
     (refuse (not (fits n (collected Y s))) Why.Room (collected Y s)

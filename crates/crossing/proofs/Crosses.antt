@@ -34,7 +34,7 @@ made H R c k e f = f ∙ ap (λ q. step tuple k (lent H R q)) e
 
 module _ {T : Type 0} (returns : Told → CRecord → T) (c : CRecord) where
   -- an outcome on its way back
-  abbrev sent : Outcome → Given T
+  abbrev sent : Outcome State → Given T
   sent o = given (returns (told (o .answer)) (back c (o .left .«record»))) (o .left .heap) (o .left .roots)
 
   lands : (k : Call) (H R : List ℕ) (b : Bool) → noHalf c ≡ b
@@ -42,7 +42,7 @@ module _ {T : Type 0} (returns : Told → CRecord → T) (c : CRecord) where
   unfolding called
   lands k H R true e =
       rw e
-      (ap (λ (o : Outcome). given (returns (told (o .answer)) c) (o .left .heap) (o .left .roots))
+      (ap (λ (o : Outcome State). given (returns (told (o .answer)) c) (o .left .heap) (o .left .roots))
       (shape-first tuple (lent H R nowhere) (nowhere-bad H R) k))
   lands k H R false e = rw e
 
@@ -62,7 +62,7 @@ taken-narrow c e n = subst (λ q. Narrow (q .free .0)) (sym e) (go (noHalf c) re
 pub narrow : {H′ R′ : List ℕ} {q : Record} {o : Answered} (c : CRecord) (H R : List ℕ) (k : Call)
     → q ≡ taken c → outcome o H′ R′ ≡ step tuple k (lent H R q)
     → Narrow (c .free) → Narrow (o .«record» .free .0)
-narrow c H R k e f n = subst (λ (o : Outcome). Narrow (free (o .left))) (sym f) (step-narrow tuple (lent H R _) (taken-narrow c e n) k)
+narrow c H R k e f n = subst (λ (o : Outcome State). Narrow (free (o .left))) (sym f) (step-narrow tuple (lent H R _) (taken-narrow c e n) k)
 
 -- fresh: it does not look at the record that it is given
 pub fresh-crosses : {H′ : List ℕ} {o : Answered} {r : CResult} (H : List ℕ) (q : Record) (c : CRecord)
@@ -74,7 +74,7 @@ fresh-crosses {H′} H q c f e =
     ∙ ap sent-back f
     ∙ go (badLength (length H)) refl
   where
-    sent-back : Outcome → Given CResult
+    sent-back : Outcome State → Given CResult
     sent-back o = given (result (told (o .answer)) (freshBack (told (o .answer)) c (o .left .«record»))) (o .left .heap) (o .left .roots)
 
     go : (b : Bool) → badLength (length H) ≡ b → sent-back (fresh (lent H [] q)) ≡ begun H c
@@ -85,7 +85,7 @@ pub fresh-narrow : {H′ : List ℕ} {o : Answered} (H : List ℕ) (q : Record) 
     → q ≡ taken c → outcome o H′ [] ≡ fresh (lent H [] q)
     → Narrow (c .free) → Narrow (o .«record» .free .0)
 unfolding fresh refuse
-fresh-narrow H q c e f n = subst (λ (o : Outcome). Narrow (free (o .left))) (sym f) (go (badLength (length H)) refl)
+fresh-narrow H q c e f n = subst (λ (o : Outcome State). Narrow (free (o .left))) (sym f) (go (badLength (length H)) refl)
   where
     go : (b : Bool) → badLength (length H) ≡ b → Narrow (free (fresh (lent H [] q) .left))
     go true g = rw g (taken-narrow c e n)

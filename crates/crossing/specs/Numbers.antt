@@ -73,7 +73,7 @@ given r H R = record { returned = r; heap = H; roots = R }
 
 module _ {T : Type 0} (returns : Told → CRecord → T) where
   -- an outcome in numbers
-  abbrev pub inNumbers : Outcome → Given T
+  abbrev pub inNumbers : Outcome State → Given T
   inNumbers o = given (returns (told (o .answer)) (numbersOf (o .left .«record»))) (o .left .heap) (o .left .roots)
 
   -- SHAPE: nothing changes, and the record is handed back as it came
@@ -81,7 +81,7 @@ module _ {T : Type 0} (returns : Told → CRecord → T) where
   shapeRefused H R c = given (returns (told (Says.Refused Why.Shape)) c) H R
 
   -- a call of the model, given numbers: a half that is none is SHAPE
-  unfoldable pub called : (State → Outcome) → List ℕ → List ℕ → CRecord → Given T
+  unfoldable pub called : (State → Outcome State) → List ℕ → List ℕ → CRecord → Given T
   called f H R c = cond (noHalf c) (shapeRefused H R c) (inNumbers (f (lent H R (recordOf c))))
 
 -- fresh looks at no number of the record: its SHAPE is that of the heap's length alone, and it has no roots

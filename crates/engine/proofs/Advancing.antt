@@ -17,12 +17,12 @@ use Rattle.model.proofs.Tests.{same?}
 use Rattle.model.proofs.Members.{In}
 use Rattle.model.proofs.Visits.{no-some}
 use Rattle.model.proofs.Shape.{other-in}
-use Rattle.model.proofs.Soundness.{Sound}
+use Rattle.model.proofs.Soundness.{SoundTests}
 use Rattle.model.proofs.Middle.{header-outside, distinct-fits}
 use Rattle.runs.proofs.RunLaws.{Outside}
 use Rattle.engine.proofs.Midway.{Midway}
 
-module _ (Y : Layout) (s : State) (v : Sound Y s) (o : List ℕ) (p : ℕ) (h : List ℕ) (M : Midway Y s o p h)
+module _ (Y : Layout) (s : State) (v : SoundTests Y s) (o : List ℕ) (p : ℕ) (h : List ℕ) (M : Midway Y s o p h)
     (l : p < length (packed (cells Y (s .heap)) o)) where
   abbrev t : ℕ
   t = otherFirst s

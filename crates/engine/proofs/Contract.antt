@@ -8,19 +8,19 @@ use Rattle.model.specs.declared.Half.{Half}
 use Rattle.model.specs.declared.Answer.the-variants as Says
 use Rattle.model.specs.Limits.{maxHalf}
 use Rattle.model.specs.Words.{State, lent, halfWords, other, firstOf, firstWord, otherFirst, free}
-use Rattle.model.specs.Headers.{Layout, Lawful}
+use Rattle.model.specs.Headers.{Layout, Marks}
 use Rattle.model.specs.Soundness.{sound}
 use Rattle.model.specs.Collection.{live, collected}
 use Rattle.model.specs.Answers.{says}
 use Rattle.model.proofs.Shape.{Shaped}
-use Rattle.model.proofs.Soundness.{Sound, sound-parts}
+use Rattle.model.proofs.Soundness.{SoundTests, sound-parts}
 use Rattle.model.proofs.Order.{order-fits}
 use Rattle.model.proofs.Collected.{live-is}
 use Rattle.engine.specs.Evacuation.{Emptied, emptied, evacuated, SafeEvacuation}
 use Rattle.engine.proofs.End.{safe, leaves, ended-is, free-is}
 
-module _ (Y : Layout) (K : Lawful Y) (s : State) (e : sound Y s ≡ true) where
-  v : Sound Y s
+module _ (Y : Layout) (K : Marks Y) (s : State) (e : sound Y s ≡ true) where
+  v : SoundTests Y s
   v = sound-parts Y s e
 
   pub shape : Shaped s

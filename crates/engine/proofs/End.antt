@@ -8,14 +8,14 @@ use mathlib.Core.List.{List}
 use lib.ListN.{length}
 use lib.Seq.{ext-getD}
 use Rattle.model.specs.Words.{State, lent, at, halfWords, other, firstWord, otherFirst, free}
-use Rattle.model.specs.Headers.{Layout, Lawful}
+use Rattle.model.specs.Headers.{Layout, Marks}
 use Rattle.model.specs.Discovery.{mem, packed}
 use Rattle.model.specs.Collection.{cells, orderAt, live, collected}
 use Rattle.model.specs.During.{during}
 use Rattle.model.proofs.Tests.{by-test, decide}
 use Rattle.model.proofs.Members.{In, Out}
 use Rattle.model.proofs.Shape.{first-in, other-in, halves-cover}
-use Rattle.model.proofs.Soundness.{Sound}
+use Rattle.model.proofs.Soundness.{SoundTests}
 use Rattle.model.proofs.Keeping.{tile}
 use Rattle.model.proofs.Order.{free-in}
 use Rattle.model.proofs.Collected.{new-length, new-old, new-null, new-free}
@@ -30,7 +30,7 @@ use Rattle.engine.specs.Middle.{stateAfter}
 use Rattle.engine.proofs.Slices.{safe-roots, after-roots, scan-starts, safe-slice}
 use Rattle.engine.proofs.Middle.{state-is}
 
-module _ (Y : Layout) (K : Lawful Y) (s : State) (v : Sound Y s) where
+module _ (Y : Layout) (K : Marks Y) (s : State) (v : SoundTests Y s) where
   abbrev S : ℕ
   S = halfWords (s .heap)
 

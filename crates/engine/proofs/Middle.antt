@@ -11,7 +11,7 @@ use mathlib.Core.Option.{none}
 use lib.ListN.{length, List·getD-eq-default}
 use lib.Seq.{ext-getD}
 use Rattle.model.specs.Words.{State, lent, at, halfWords, other, firstWord, otherFirst}
-use Rattle.model.specs.Headers.{Layout, Lawful}
+use Rattle.model.specs.Headers.{Layout, Marks}
 use Rattle.model.specs.Discovery.{mem, packed}
 use Rattle.model.specs.Soundness.{sound}
 use Rattle.model.specs.Collection.{Cell, still, cells, wordLeads, orderAt, order, live, rename}
@@ -21,7 +21,7 @@ use Rattle.model.proofs.Members.{In, Out, map-in, position}
 use Rattle.model.proofs.Lists.{getD-map}
 use Rattle.model.proofs.Packed.{packed-grows}
 use Rattle.model.proofs.Shape.{other-in, halves-cover}
-use Rattle.model.proofs.Soundness.{Sound, sound-parts}
+use Rattle.model.proofs.Soundness.{SoundTests, sound-parts}
 use Rattle.model.proofs.Collected.{live-is}
 use Rattle.model.proofs.Stage.{stage-passed, stage-coming, stage-rest, stage-header, stage-kept, stage-length}
 use Rattle.model.proofs.During.{rename-stable, order-heads, order-room, root-found, ended}
@@ -35,7 +35,7 @@ use Rattle.engine.proofs.Slices.{Reached, after-roots, scan-starts, sli
 
 -- ---- the heap, word by word
 
-module _ (Y : Layout) (s : State) (v : Sound Y s) (p : ℕ) (h : List ℕ) (M : Midway Y s (orderAt Y s p) p h) where
+module _ (Y : Layout) (s : State) (v : SoundTests Y s) (p : ℕ) (h : List ℕ) (M : Midway Y s (orderAt Y s p) p h) where
   abbrev S : ℕ
   S = halfWords (s .heap)
 
@@ -99,7 +99,7 @@ module _ (Y : Layout) (s : State) (v : Sound Y s) (p : ℕ) (h : List ℕ) (M : 
 
 -- ---- the state, and the scan's place
 
-module _ (Y : Layout) (K : Lawful Y) (s : State) (v : Sound Y s) where
+module _ (Y : Layout) (K : Marks Y) (s : State) (v : SoundTests Y s) where
   abbrev e : Emptied
   e = rooted Y (s .heap) (s .roots) (otherFirst s)
 
@@ -168,5 +168,5 @@ module _ (Y : Layout) (K : Lawful Y) (s : State) (v : Sound Y s) where
   midway p = record { state = state-is p; place = place-is p }
 
 -- THE MIDDLE STATE of any sound heap
-pub in-the-middle : (Y : Layout) → Lawful Y → (s : State) → sound Y s ≡ true → (p : ℕ) → Middle Y s p
+pub in-the-middle : (Y : Layout) → Marks Y → (s : State) → sound Y s ≡ true → (p : ℕ) → Middle Y s p
 in-the-middle Y K s e = midway Y K s (sound-parts Y s e)

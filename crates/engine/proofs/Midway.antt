@@ -20,7 +20,7 @@ use Rattle.model.proofs.Members.{In, Out, in-append-left, in-snoc, in-last, in-
 use Rattle.model.proofs.Packed.{wordsBefore-append, wordsBefore-last}
 use Rattle.model.proofs.Objects.{cells-length}
 use Rattle.model.proofs.Shape.{other-in}
-use Rattle.model.proofs.Soundness.{Sound}
+use Rattle.model.proofs.Soundness.{SoundTests}
 use Rattle.model.proofs.During.{settle-stable}
 use Rattle.model.proofs.Middle.{halves-ordered, cell-word, packed-snoc, header-within, header-half, header-outside, header-alone, distinct-fits}
 use Rattle.runs.specs.Runs.{copiedRun}
@@ -60,7 +60,7 @@ module _ (Y : Layout) (h : List ℕ) (k f : ℕ) where
 
 -- ---- a new object moved to the free words
 
-module _ (Y : Layout) (s : State) (v : Sound Y s) (o : List ℕ) (p : ℕ) (h : List ℕ) (M : Midway Y s o p h) (k : ℕ)
+module _ (Y : Layout) (s : State) (v : SoundTests Y s) (o : List ℕ) (p : ℕ) (h : List ℕ) (M : Midway Y s o p h) (k : ℕ)
     (hk : In k (headers Y s)) (new : Out k o) where
   abbrev H : List ℕ
   H = s .heap

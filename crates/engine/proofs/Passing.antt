@@ -9,7 +9,7 @@ use mathlib.Core.List.{List, [], _∷_, _++_, append-nil}
 use mathlib.Core.Option.{Option}
 use lib.ListN.{length, getD}
 use Rattle.model.specs.Words.{State, at, otherFirst}
-use Rattle.model.specs.Headers.{Layout, Lawful}
+use Rattle.model.specs.Headers.{Layout, Marks}
 use Rattle.model.specs.Discovery.{mem, visit, packed}
 use Rattle.model.specs.Soundness.{headers}
 use Rattle.model.specs.Collection.{Cell, still, value, cells, wordLeads, cellLeads, settle}
@@ -18,7 +18,7 @@ use Rattle.model.proofs.Tests.{same?}
 use Rattle.model.proofs.Members.{In, in-append-right, in-self}
 use Rattle.model.proofs.Visits.{Starts, visit-starts, visit-has}
 use Rattle.model.proofs.Packed.{packed-starts, packed-grows}
-use Rattle.model.proofs.Soundness.{Sound}
+use Rattle.model.proofs.Soundness.{SoundTests}
 use Rattle.model.proofs.Middle.{visit-none, header-within, distinct-fits, cell-header}
 use Rattle.moving.specs.Moving.{renamed, MayRename}
 use Rattle.scanning.specs.Scanning.{Scan, passed, MayPass}
@@ -37,7 +37,7 @@ pub record Scans (Y : Layout) (s : State) (o : List ℕ) (p : ℕ) (h : List ℕ
   pub rest : List ℕ
   pub cursor : Cursor Y (s .heap) o p (c .values) (c .raws) gone rest
 
-module _ (Y : Layout) (K : Lawful Y) (s : State) (v : Sound Y s) (o : List ℕ) (p : ℕ) (h : List ℕ) (c : Scan)
+module _ (Y : Layout) (K : Marks Y) (s : State) (v : SoundTests Y s) (o : List ℕ) (p : ℕ) (h : List ℕ) (c : Scan)
     (I : Scans Y s o p h c) (more : c .at < c .free) where
   abbrev H : List ℕ
   H = s .heap

@@ -10,7 +10,7 @@ use lib.ListN.{length}
 use Rattle.model.specs.Limits.{maxWords}
 use Rattle.model.specs.Words.{State, at, otherFirst}
 use Rattle.model.specs.Values.{isAddress}
-use Rattle.model.specs.Headers.{Layout, Lawful}
+use Rattle.model.specs.Headers.{Layout, Marks}
 use Rattle.model.specs.Objects.{address, index, size}
 use Rattle.model.specs.Discovery.{mem, visit, packed, wordsBefore}
 use Rattle.model.specs.Soundness.{headers}
@@ -19,7 +19,7 @@ use Rattle.model.proofs.Tests.{by-test, never}
 use Rattle.model.proofs.Members.{In, Out}
 use Rattle.model.proofs.Packed.{wordsBefore-last}
 use Rattle.model.proofs.Shape.{other-in}
-use Rattle.model.proofs.Soundness.{Sound}
+use Rattle.model.proofs.Soundness.{SoundTests}
 use Rattle.model.proofs.Values.{address-leads}
 use Rattle.model.proofs.Keeping.{tile}
 use Rattle.model.proofs.Middle.{visit-again, visit-new, visit-none, plain-leads, rename-plain, rename-address, header-within, distinct-fits}
@@ -35,7 +35,7 @@ pub record Renames (Y : Layout) (s : State) (o : List ℕ) (p : ℕ) (h : List �
   pub free : renamed Y h w f .free ≡ otherFirst s + length (packed (cells Y (s .heap)) o)
   pub mid : Midway Y s o p (renamed Y h w f .heap)
 
-module _ (Y : Layout) (K : Lawful Y) (s : State) (v : Sound Y s) (o : List ℕ) (p : ℕ) (h : List ℕ) (M : Midway Y s o p h) (w : ℕ) where
+module _ (Y : Layout) (K : Marks Y) (s : State) (v : SoundTests Y s) (o : List ℕ) (p : ℕ) (h : List ℕ) (M : Midway Y s o p h) (w : ℕ) where
   abbrev H : List ℕ
   H = s .heap
 

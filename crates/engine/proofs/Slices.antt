@@ -10,7 +10,7 @@ use mathlib.Core.List.{List, [], _∷_, map}
 use mathlib.Core.Option.{Option}
 use lib.ListN.{length}
 use Rattle.model.specs.Words.{State, at, otherFirst}
-use Rattle.model.specs.Headers.{Layout, Lawful}
+use Rattle.model.specs.Headers.{Layout, Marks}
 use Rattle.model.specs.Discovery.{visit, visits, packed, found}
 use Rattle.model.specs.Soundness.{headers, isValue}
 use Rattle.model.specs.Collection.{Cell, cells, wordLeads, orderAt, rename}
@@ -18,7 +18,7 @@ use Rattle.model.proofs.Tests.{decide}
 use Rattle.model.proofs.Members.{In, in-nil}
 use Rattle.model.proofs.Visits.{visits-starts, visit-has}
 use Rattle.model.proofs.Shape.{other-in}
-use Rattle.model.proofs.Soundness.{Sound}
+use Rattle.model.proofs.Soundness.{SoundTests}
 use Rattle.model.proofs.Values.{leads-address, value-header}
 use Rattle.model.proofs.During.{rename-stable, order-step}
 use Rattle.model.proofs.Middle.{distinct-fits}
@@ -43,7 +43,7 @@ pub record Reached (Y : Layout) (s : State) (n p : ℕ) (a : After) : Type 0 whe
   pub whole : (place ≡ p + n) ⊎ (length (packed (cells Y (s .heap)) (orderAt Y s place)) ≤ place)
   pub scans : Scans Y s (orderAt Y s place) place (a .heap) (a .scan)
 
-module _ (Y : Layout) (K : Lawful Y) (s : State) (v : Sound Y s) where
+module _ (Y : Layout) (K : Marks Y) (s : State) (v : SoundTests Y s) where
   abbrev H : List ℕ
   H = s .heap
 

@@ -19,10 +19,12 @@ use Rattle.model.specs.Objects.{address, index, kind, fieldCount, size, 
 use Rattle.model.specs.Sessions.{step}
 use Rattle.model.specs.Values.{isAddress}
 use Rattle.model.specs.Words.{State, at, halfWords}
+use Rattle.model.proofs.Deciding.{tests-sound}
 use Rattle.model.proofs.DiscoveryAlike.{Along, Inside, packed-sizes, found-along, found-settled}
 use Rattle.model.proofs.Collected.{live-is}
 use Rattle.model.proofs.CollectedSound.{new-sound}
 use Rattle.model.proofs.Demand2.{collects}
+use Rattle.model.proofs.Deciding.{tests-sound}
 use Rattle.model.proofs.Discovery.{Reach, root, found-distinct}
 use Rattle.model.proofs.GraphWords.{below, in-below, total-packed}
 use Rattle.model.proofs.Lists.{getD-map, getD-same}
@@ -30,22 +32,23 @@ use Rattle.model.proofs.Members.{In, in-map, map-in-out, mem-in, in-mem
 use Rattle.model.proofs.Objects.{index-address, cells-length, field-at, fields-length}
 use Rattle.model.proofs.Order.{header-tile, free-in, order-fits}
 use Rattle.model.proofs.Packed.{packed-within}
-use Rattle.model.proofs.Represents.{plain-no-address, Rep, Holds, Represents, Agrees, header-is-address}
+use Rattle.model.specs.Represents.{Encodes, Holds, Represents}
+use Rattle.model.proofs.Represents.{parts, plain-no-address, Agrees, header-is-address}
 use Rattle.model.proofs.Shape.{unshaped}
 use Rattle.model.proofs.Soundness.{sound-whole}
 
 module _ (Y : Layout) (s : State) (g : Graph) (m : Represents Y s g) where
   abbrev A : Option ℕ → Option ℕ → Type 0
-  A = Along (m .ids) (m .pl) (m .apart)
+  A = Along (m .kept) (m .headerOf) (m .apart)
 
-  rep-along : (v : Value) (w : ℕ) → Rep Y (m .ids) (m .pl) v w → A (valueLeads v) (wordLeads Y w)
+  rep-along : (v : Value) (w : ℕ) → Encodes Y (m .kept) (m .headerOf) v w → A (valueLeads v) (wordLeads Y w)
   unfolding wordLeads
   rep-along (plain p) w e = rw (e .1, plain-no-address p (e .0))
   rep-along (object x) w e =
-      (e .0, rw (e .1, header-is-address Y s (m .ok) (m .pl x) (m .head x (e .0)), index-address Y (m .pl x)))
+      (e .0, rw (e .1, header-is-address Y s (parts m) (m .headerOf x) (m .head x (e .0)), index-address Y (m .headerOf x)))
 
   -- the cells of an object, in both
-  object-size : (b : Object) (i : ℕ) → i + size Y (s .heap) i ≤ length (s .heap) → Holds Y (m .ids) (m .pl) (s .heap) b i
+  object-size : (b : Object) (i : ℕ) → i + size Y (s .heap) i ≤ length (s .heap) → Holds Y (m .kept) (m .headerOf) (s .heap) b i
       → length (cells Y (s .heap) i) ≡ length (objectCells b)
   object-size (traced vs) i l h = let c = cells-length Y (s .heap) i l in let z = length-map vs valueLeads in let y = h .1 in omega arith
   object-size (untraced ws) i l h =
@@ -61,7 +64,7 @@ module _ (Y : Layout) (s : State) (g : Graph) (m : Represents Y s g) where
       getD-map (fieldCell (kind Y (s .heap) i)) (fieldWords Y (s .heap) i) f 0 (still 0) (omega arith)
       ∙ ap (fieldCell (kind Y (s .heap) i)) (field-at Y (s .heap) i f u)
 
-  object-alike : (b : Object) (i k : ℕ) → i + size Y (s .heap) i ≤ length (s .heap) → Holds Y (m .ids) (m .pl) (s .heap) b i
+  object-alike : (b : Object) (i k : ℕ) → i + size Y (s .heap) i ≤ length (s .heap) → Holds Y (m .kept) (m .headerOf) (s .heap) b i
       → k < length (objectCells b)
       → A (itself (getD (objectCells b) k none)) (cellLeads Y (getD (cells Y (s .heap) i) k (still 0)))
   object-alike (traced vs) i zero l h u = refl
@@ -76,8 +79,8 @@ module _ (Y : Layout) (s : State) (g : Graph) (m : Represents Y s g) where
       let n : f < fieldCount Y (s .heap) i = omega arith in
       rw (getD-same {A = Option ℕ} (length ws) f none, heap-field i f l n, h .0) refl
 
-  within : (x : ℕ) → In x (m .ids) → m .pl x + size Y (s .heap) (m .pl x) ≤ length (s .heap)
-  within x i = let t = header-tile Y s (m .ok) (m .pl x) (m .head x i) in omega (arith, free-in Y s (m .ok))
+  within : (x : ℕ) → In x (m .kept) → m .headerOf x + size Y (s .heap) (m .headerOf x) ≤ length (s .heap)
+  within x i = let t = header-tile Y s (parts m) (m .headerOf x) (m .head x i) in omega (arith, free-in Y s (parts m))
 
   roots-count : length (map valueLeads (g .roots)) ≡ length (map (wordLeads Y) (s .roots))
   roots-count = length-map (g .roots) valueLeads ∙ sym (m .count) ∙ sym (length-map (s .roots) (wordLeads Y))
@@ -90,20 +93,20 @@ module _ (Y : Layout) (s : State) (g : Graph) (m : Represents Y s g) where
       (rep-along (rootValue g k) (at (s .roots) k) (m .roots k n))
 
   -- both are discovered alike
-  pub order-along : (p : ℕ) → (orderAt Y s p ≡ map (m .pl) (graphOrder g p)) × Inside (m .ids) (m .pl) (m .apart) (graphOrder g p)
+  pub order-along : (p : ℕ) → (orderAt Y s p ≡ map (m .headerOf) (graphOrder g p)) × Inside (m .kept) (m .headerOf) (m .apart) (graphOrder g p)
   unfolding orderAt graphOrder
   order-along p =
-      found-along (m .ids) (m .pl) (m .apart) (graphCells g) none itself (cells Y (s .heap)) (still 0) (cellLeads Y) refl refl
-      (λ x i. object-size (nth g x) (m .pl x) (within x i) (m .holds x i))
-      (λ x k i l. object-alike (nth g x) (m .pl x) k (within x i) (m .holds x i) l)
+      found-along (m .kept) (m .headerOf) (m .apart) (graphCells g) none itself (cells Y (s .heap)) (still 0) (cellLeads Y) refl refl
+      (λ x i. object-size (nth g x) (m .headerOf x) (within x i) (m .holds x i))
+      (λ x k i l. object-alike (nth g x) (m .headerOf x) k (within x i) (m .holds x i) l)
       (map valueLeads (g .roots)) (map (wordLeads Y) (s .roots)) roots-count roots-along p
 
   words-along : (p : ℕ) → length (packed (cells Y (s .heap)) (orderAt Y s p)) ≡ length (packed (graphCells g) (graphOrder g p))
   words-along p =
       rw (order-along p .0)
-      (packed-sizes (m .ids) (m .pl) (m .apart) (graphCells g) none itself (cells Y (s .heap)) (still 0) (cellLeads Y) refl refl
-      (λ x i. object-size (nth g x) (m .pl x) (within x i) (m .holds x i))
-      (λ x k i l. object-alike (nth g x) (m .pl x) k (within x i) (m .holds x i) l)
+      (packed-sizes (m .kept) (m .headerOf) (m .apart) (graphCells g) none itself (cells Y (s .heap)) (still 0) (cellLeads Y) refl refl
+      (λ x i. object-size (nth g x) (m .headerOf x) (within x i) (m .holds x i))
+      (λ x k i l. object-alike (nth g x) (m .headerOf x) k (within x i) (m .holds x i) l)
       (graphOrder g p) (order-along p .1))
 
   pub graph-fits : (p : ℕ) → length (packed (graphCells g) (graphOrder g p)) ≤ totalWords (g .objects)
@@ -118,49 +121,49 @@ module _ (Y : Layout) (s : State) (g : Graph) (m : Represents Y s g) where
   unfolding graphOrder
   orders-same =
       found-settled (graphCells g) none itself (map valueLeads (g .roots)) refl (halfWords (s .heap)) (totalWords (g .objects))
-      (omega (arith, words-along (halfWords (s .heap)), order-fits Y s (m .ok)))
+      (omega (arith, words-along (halfWords (s .heap)), order-fits Y s (parts m)))
       (graph-fits (totalWords (g .objects)))
 
   -- the live words are the graph's
   pub live-same : live Y s ≡ graphLive g
   unfolding graphLive
-  live-same = live-is Y s (m .ok) ∙ words-along (halfWords (s .heap)) ∙ ap (λ o. length (packed (graphCells g) o)) orders-same
+  live-same = live-is Y s (parts m) ∙ words-along (halfWords (s .heap)) ∙ ap (λ o. length (packed (graphCells g) o)) orders-same
 
   abbrev c : D.Collects Y s (collected Y s) (live Y s)
-  c = collects Y s (m .ok)
+  c = collects Y s (parts m)
 
-  abbrev ids′ : List ℕ
-  ids′ = graphOrder g (halfWords (s .heap))
+  abbrev kept′ : List ℕ
+  kept′ = graphOrder g (halfWords (s .heap))
 
-  abbrev pl′ : ℕ → ℕ
-  pl′ x = D.copyIndex Y s (m .pl x)
+  abbrev headerOf′ : ℕ → ℕ
+  headerOf′ x = D.copyIndex Y s (m .headerOf x)
 
-  kept-known : (x : ℕ) → In x (graphOrder g (halfWords (s .heap))) → In x (m .ids)
+  kept-known : (x : ℕ) → In x (graphOrder g (halfWords (s .heap))) → In x (m .kept)
   kept-known x i = order-along (halfWords (s .heap)) .1 x i
 
-  kept-order : (x : ℕ) → In x (graphOrder g (halfWords (s .heap))) → In (m .pl x) (order Y s)
-  kept-order x i = rw (order-along (halfWords (s .heap)) .0) (in-map (m .pl) x (graphOrder g (halfWords (s .heap))) i)
+  kept-order : (x : ℕ) → In x (graphOrder g (halfWords (s .heap))) → In (m .headerOf x) (order Y s)
+  kept-order x i = rw (order-along (halfWords (s .heap)) .0) (in-map (m .headerOf) x (graphOrder g (halfWords (s .heap))) i)
 
-  kept-reach : (x : ℕ) → In x (graphOrder g (halfWords (s .heap))) → D.Reach Y s (m .pl x)
-  kept-reach x i = c .listed (m .pl x) (in-mem (m .pl x) (order Y s) (kept-order x i))
+  kept-reach : (x : ℕ) → In x (graphOrder g (halfWords (s .heap))) → D.Reach Y s (m .headerOf x)
+  kept-reach x i = c .listed (m .headerOf x) (in-mem (m .headerOf x) (order Y s) (kept-order x i))
 
-  reach-kept : (x : ℕ) → In x (m .ids) → D.Reach Y s (m .pl x) → In x (graphOrder g (halfWords (s .heap)))
+  reach-kept : (x : ℕ) → In x (m .kept) → D.Reach Y s (m .headerOf x) → In x (graphOrder g (halfWords (s .heap)))
   reach-kept x i r =
-      let o : In (m .pl x) (order Y s) = mem-in (m .pl x) (order Y s) (c .reached (m .pl x) r) in
-      let t = map-in-out (m .pl) (m .pl x) (graphOrder g (halfWords (s .heap))) (rw (order-along (halfWords (s .heap)) .0) at o) in
+      let o : In (m .headerOf x) (order Y s) = mem-in (m .headerOf x) (order Y s) (c .reached (m .headerOf x) r) in
+      let t = map-in-out (m .headerOf) (m .headerOf x) (graphOrder g (halfWords (s .heap))) (rw (order-along (halfWords (s .heap)) .0) at o) in
       subst (λ z. In z (graphOrder g (halfWords (s .heap)))) (m .apart (t .0) x (kept-known (t .0) (t .1)) i (t .2)) (t .1)
 
   -- a value and what its word became
-  became : (v : Value) (w w′ : ℕ) → Rep Y (m .ids) (m .pl) v w → D.Became Y s w w′
-      → (isAddress w ≡ true → D.Reach Y s (index Y w)) → Rep Y ids′ pl′ v w′
+  became : (v : Value) (w w′ : ℕ) → Encodes Y (m .kept) (m .headerOf) v w → D.Became Y s w w′
+      → (isAddress w ≡ true → D.Reach Y s (index Y w)) → Encodes Y kept′ headerOf′ v w′
   became (plain p) w w′ e b r = (e .0, b .stays (rw (e .1) (plain-no-address p (e .0))) ∙ e .1)
   became (object x) w w′ e b r =
-      let p : isAddress w ≡ true = rw (e .1) (header-is-address Y s (m .ok) (m .pl x) (m .head x (e .0))) in
-      let d : index Y w ≡ m .pl x = rw (e .1) (index-address Y (m .pl x)) in
+      let p : isAddress w ≡ true = rw (e .1) (header-is-address Y s (parts m) (m .headerOf x) (m .head x (e .0))) in
+      let d : index Y w ≡ m .headerOf x = rw (e .1) (index-address Y (m .headerOf x)) in
       (reach-kept x (e .0) (subst (D.Reach Y s) d (r p)), b .moves p ∙ ap (λ z. address Y (D.copyIndex Y s z)) d)
 
-  kept-holds : (b : Object) (i : ℕ) → D.Reach Y s i → Holds Y (m .ids) (m .pl) (s .heap) b i
-      → Holds Y ids′ pl′ (collected Y s .heap) b (D.copyIndex Y s i)
+  kept-holds : (b : Object) (i : ℕ) → D.Reach Y s i → Holds Y (m .kept) (m .headerOf) (s .heap) b i
+      → Holds Y kept′ headerOf′ (collected Y s .heap) b (D.copyIndex Y s i)
   kept-holds (traced vs) i r h =
       let e = c .header i r in (
         ap (λ z. Y .kindOf z) e ∙ h .0,
@@ -180,19 +183,19 @@ module _ (Y : Layout) (s : State) (g : Graph) (m : Represents Y s g) where
 
   pub collect-represents : Represents Y (collected Y s) g
   collect-represents = record {
-    ok = new-sound Y s (m .ok);
-    ids = ids′;
-    pl = pl′;
+    ok = tests-sound Y (collected Y s) (new-sound Y s (parts m));
+    kept = kept′;
+    headerOf = headerOf′;
     known = λ x i. m .known x (kept-known x i);
-    head = λ x i. rw (c .copies) (in-map (D.copyIndex Y s) (m .pl x) (order Y s) (kept-order x i));
-    apart = λ x y i j e. m .apart x y (kept-known x i) (kept-known y j) (c .shared (m .pl x) (m .pl y) (kept-reach x i) (kept-reach y j) e);
+    head = λ x i. rw (c .copies) (in-map (D.copyIndex Y s) (m .headerOf x) (order Y s) (kept-order x i));
+    apart = λ x y i j e. m .apart x y (kept-known x i) (kept-known y j) (c .shared (m .headerOf x) (m .headerOf y) (kept-reach x i) (kept-reach y j) e);
     count = c .rootCount ∙ m .count;
     roots = λ r l.
         let n : r < length (s .roots) = omega (arith, m .count) in
         became (rootValue g r) (at (s .roots) r) (at (collected Y s .roots) r) (m .roots r l) (c .root r n) (λ p. D.fromRoot r n p);
-    holds = λ x i. kept-holds (nth g x) (m .pl x) (kept-reach x i) (m .holds x (kept-known x i));
+    holds = λ x i. kept-holds (nth g x) (m .headerOf x) (kept-reach x i) (m .holds x (kept-known x i));
   }
 
   pub collect-agrees : Agrees Y (step Y Ask.Collect s) (graphStep Ask.Collect g)
   unfolding step Calls.collect graphStep refuse
-  collect-agrees = rw (unshaped s (m .ok .shape), sound-whole Y s (m .ok), live-same) (refl, collect-represents)
+  collect-agrees = rw (unshaped s (parts m .shape), sound-whole Y s (parts m), live-same) (refl, collect-represents)

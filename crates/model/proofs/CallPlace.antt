@@ -14,28 +14,30 @@ use Rattle.model.specs.declared.Kind.the-variants.{Traced, Untraced}
 use Rattle.model.specs.Changes.{spare, placed}
 use Rattle.model.specs.Graph.{null, Value, plain, object, Object, traced, untraced, Graph, nth, rootValue}
 use Rattle.model.specs.GraphCalls.{blankObject, grown}
-use Rattle.model.specs.Headers.{Layout, Lawful}
+use Rattle.model.specs.Headers.{Layout, WritesBoth}
 use Rattle.model.specs.Limits.{maxFields}
 use Rattle.model.specs.Objects.{address, size}
 use Rattle.model.specs.Soundness.{headers}
 use Rattle.model.specs.Words.{State, at, free}
 use Rattle.model.proofs.CallsOnFields.{holds-kept}
+use Rattle.model.proofs.Deciding.{tests-sound}
 use Rattle.model.proofs.Keeping.{tile}
 use Rattle.model.proofs.Members.{In, in-append-left, in-snoc, in-last}
 use Rattle.model.proofs.Placing.{place-header, place-other, place-headers, place-sound}
-use Rattle.model.proofs.Represents.{Rep, Holds, Represents}
+use Rattle.model.specs.Represents.{Encodes, Holds, Represents}
+use Rattle.model.proofs.Represents.{parts}
 use Rattle.model.proofs.Tests.{same?}
 
-module _ (Y : Layout) (law : Lawful Y) where
+module _ (Y : Layout) (law : WritesBoth Y) where
   module _ (s : State) (g : Graph) (m : Represents Y s g) (k : Kind) (n r : ℕ) (small : n ≤ maxFields) (fit : n + 1 ≤ spare s) where
     abbrev N : ℕ
     N = length (g .objects)
 
-    abbrev ids⁺ : List ℕ
-    ids⁺ = m .ids ++ (length (g .objects) ∷ [])
+    abbrev kept⁺ : List ℕ
+    kept⁺ = m .kept ++ (length (g .objects) ∷ [])
 
-    abbrev pl⁺ : ℕ → ℕ
-    pl⁺ x = cond (eqb x (length (g .objects))) (free s) (m .pl x)
+    abbrev headerOf⁺ : ℕ → ℕ
+    headerOf⁺ x = cond (eqb x (length (g .objects))) (free s) (m .headerOf x)
 
     abbrev g⁺ : Graph
     g⁺ = grown k n r g
@@ -43,51 +45,51 @@ module _ (Y : Layout) (law : Lawful Y) where
     abbrev s⁺ : State
     s⁺ = placed Y k n r s
 
-    old-pl : (x : ℕ) → In x (m .ids) → pl⁺ x ≡ m .pl x
+    old-pl : (x : ℕ) → In x (m .kept) → headerOf⁺ x ≡ m .headerOf x
     old-pl x i = rw (ne-eqb x (length (g .objects)) (λ e. let z = m .known x i in omega arith))
 
-    new-pl : pl⁺ (length (g .objects)) ≡ free s
+    new-pl : headerOf⁺ (length (g .objects)) ≡ free s
     new-pl = rw (eq-eqb (length (g .objects)) (length (g .objects)) refl)
 
-    under : (x : ℕ) → In x (m .ids) → m .pl x + size Y (s .heap) (m .pl x) ≤ free s
-    under x i = tile Y s (m .ok) (m .pl x) (m .head x i) .within
+    under : (x : ℕ) → In x (m .kept) → m .headerOf x + size Y (s .heap) (m .headerOf x) ≤ free s
+    under x i = tile Y s (parts m) (m .headerOf x) (m .head x i) .within
 
-    rep-more : (v : Value) (w : ℕ) → Rep Y (m .ids) (m .pl) v w → Rep Y ids⁺ pl⁺ v w
+    rep-more : (v : Value) (w : ℕ) → Encodes Y (m .kept) (m .headerOf) v w → Encodes Y kept⁺ headerOf⁺ v w
     rep-more (plain p) w e = e
     rep-more (object x) w e =
-        (in-append-left x (m .ids) (length (g .objects) ∷ []) (e .0), e .1 ∙ ap (address Y) (sym (old-pl x (e .0))))
+        (in-append-left x (m .kept) (length (g .objects) ∷ []) (e .0), e .1 ∙ ap (address Y) (sym (old-pl x (e .0))))
 
-    holds-more : (b : Object) (i : ℕ) → Holds Y (m .ids) (m .pl) (s .heap) b i → Holds Y ids⁺ pl⁺ (s .heap) b i
+    holds-more : (b : Object) (i : ℕ) → Holds Y (m .kept) (m .headerOf) (s .heap) b i → Holds Y kept⁺ headerOf⁺ (s .heap) b i
     holds-more (traced vs) i h = (h .0, h .1, λ f l. rep-more (getD vs f (plain null)) (at (s .heap) (i + 1 + f)) (h .2 f l))
     holds-more (untraced ws) i h = h
 
-    old-holds : (x : ℕ) → In x (m .ids) → Holds Y ids⁺ pl⁺ (s⁺ .heap) (nth g x) (m .pl x)
+    old-holds : (x : ℕ) → In x (m .kept) → Holds Y kept⁺ headerOf⁺ (s⁺ .heap) (nth g x) (m .headerOf x)
     old-holds x i =
         let u = under x i in
-        holds-kept Y ids⁺ pl⁺ (s .heap) (s⁺ .heap) (nth g x) (m .pl x)
-        (place-other Y law s (m .ok) k n r small fit (m .pl x) (λ e. omega arith))
-        (λ f l. place-other Y law s (m .ok) k n r small fit (m .pl x + 1 + f) (λ e. omega arith))
-        (holds-more (nth g x) (m .pl x) (m .holds x i))
+        holds-kept Y kept⁺ headerOf⁺ (s .heap) (s⁺ .heap) (nth g x) (m .headerOf x)
+        (place-other Y law s (parts m) k n r small fit (m .headerOf x) (λ e. omega arith))
+        (λ f l. place-other Y law s (parts m) k n r small fit (m .headerOf x + 1 + f) (λ e. omega arith))
+        (holds-more (nth g x) (m .headerOf x) (m .holds x i))
 
     -- the new object's words
     field-zero : (f : ℕ) → f < n → at (s⁺ .heap) (free s + 1 + f) ≡ 0
     field-zero f l =
-        place-other Y law s (m .ok) k n r small fit (free s + 1 + f) (λ e. omega arith)
-        ∙ m .ok .rest (free s + 1 + f) (omega arith) (omega (arith, m .ok .shape .low))
+        place-other Y law s (parts m) k n r small fit (free s + 1 + f) (λ e. omega arith)
+        ∙ parts m .rest (free s + 1 + f) (omega arith) (omega (arith, parts m .shape .low))
 
-    new-holds : (j : Kind) → k ≡ j → Holds Y ids⁺ pl⁺ (s⁺ .heap) (blankObject j n) (free s)
+    new-holds : (j : Kind) → k ≡ j → Holds Y kept⁺ headerOf⁺ (s⁺ .heap) (blankObject j n) (free s)
     new-holds Traced e =
-        let h = place-header Y law s (m .ok) k n r small fit in
+        let h = place-header Y law s (parts m) k n r small fit in
         let z : length {A = Value} (replicate n (plain null)) ≡ n = length-replicate n (plain null) in (
-          ap (λ w. Y .kindOf w) h ∙ law .kinds k n small ∙ e,
-          ap (λ w. Y .countOf w) h ∙ law .counts k n small ∙ sym z,
+          ap (λ w. Y .kindOf w) h ∙ law k .kinds n small ∙ e,
+          ap (λ w. Y .countOf w) h ∙ law k .counts n small ∙ sym z,
           λ f l. rw (getD-replicate n f (plain null) (plain null) (omega arith)) (refl, field-zero f (omega arith)),
         )
     new-holds Untraced e =
-        let h = place-header Y law s (m .ok) k n r small fit in
+        let h = place-header Y law s (parts m) k n r small fit in
         let z : length {A = ℕ} (replicate n 0) ≡ n = length-replicate n 0 in (
-          ap (λ w. Y .kindOf w) h ∙ law .kinds k n small ∙ e,
-          ap (λ w. Y .countOf w) h ∙ law .counts k n small ∙ sym z,
+          ap (λ w. Y .kindOf w) h ∙ law k .kinds n small ∙ e,
+          ap (λ w. Y .countOf w) h ∙ law k .counts n small ∙ sym z,
           λ f l. field-zero f (omega arith) ∙ sym (getD-replicate n f 0 0 (omega arith)),
         )
 
@@ -97,36 +99,36 @@ module _ (Y : Layout) (law : Lawful Y) where
 
     pub place-represents : Represents Y (placed Y k n r s) g⁺
     place-represents = record {
-      ok = place-sound Y law s (m .ok) k n r small fit;
-      ids = ids⁺;
-      pl = pl⁺;
+      ok = tests-sound Y (placed Y k n r s) (place-sound Y law s (parts m) k n r small fit);
+      kept = kept⁺;
+      headerOf = headerOf⁺;
       known = λ x i.
           let a = length-append (g .objects) (blankObject k n ∷ []) in
-          ⊎-elim (λ (j : In x (m .ids)). omega (arith, m .known x j)) (λ (e : x ≡ length (g .objects)). omega arith)
-          (in-snoc x (length (g .objects)) (m .ids) i);
+          ⊎-elim (λ (j : In x (m .kept)). omega (arith, m .known x j)) (λ (e : x ≡ length (g .objects)). omega arith)
+          (in-snoc x (length (g .objects)) (m .kept) i);
       head = λ x i.
-          rw (place-headers Y law s (m .ok) k n r small fit)
+          rw (place-headers Y law s (parts m) k n r small fit)
           (⊎-elim
-          (λ (j : In x (m .ids)). rw (old-pl x j) (in-append-left (m .pl x) (headers Y s) (free s ∷ []) (m .head x j)))
+          (λ (j : In x (m .kept)). rw (old-pl x j) (in-append-left (m .headerOf x) (headers Y s) (free s ∷ []) (m .head x j)))
           (λ (e : x ≡ length (g .objects)). rw (e, new-pl) (in-last (free s) (headers Y s)))
-          (in-snoc x (length (g .objects)) (m .ids) i));
+          (in-snoc x (length (g .objects)) (m .kept) i));
       apart = λ x y i j e.
           ⊎-elim
-          (λ (a : In x (m .ids)).
+          (λ (a : In x (m .kept)).
           ⊎-elim
-          (λ (b : In y (m .ids)). m .apart x y a b (sym (old-pl x a) ∙ e ∙ old-pl y b))
+          (λ (b : In y (m .kept)). m .apart x y a b (sym (old-pl x a) ∙ e ∙ old-pl y b))
           (λ (b : y ≡ length (g .objects)).
-          let q : m .pl x ≡ free s = sym (old-pl x a) ∙ e ∙ ap pl⁺ b ∙ new-pl in
+          let q : m .headerOf x ≡ free s = sym (old-pl x a) ∙ e ∙ ap headerOf⁺ b ∙ new-pl in
           let u = under x a in absurd (omega arith))
-          (in-snoc y (length (g .objects)) (m .ids) j))
+          (in-snoc y (length (g .objects)) (m .kept) j))
           (λ (a : x ≡ length (g .objects)).
           ⊎-elim
-          (λ (b : In y (m .ids)).
-          let q : m .pl y ≡ free s = sym (old-pl y b) ∙ sym e ∙ ap pl⁺ a ∙ new-pl in
+          (λ (b : In y (m .kept)).
+          let q : m .headerOf y ≡ free s = sym (old-pl y b) ∙ sym e ∙ ap headerOf⁺ a ∙ new-pl in
           let u = under y b in absurd (omega arith))
           (λ (b : y ≡ length (g .objects)). a ∙ sym b)
-          (in-snoc y (length (g .objects)) (m .ids) j))
-          (in-snoc x (length (g .objects)) (m .ids) i);
+          (in-snoc y (length (g .objects)) (m .kept) j))
+          (in-snoc x (length (g .objects)) (m .kept) i);
       count =
           ap length roots-set ∙ length-set (s .roots) r (address Y (free s)) ∙ m .count
           ∙ sym (length-set (g .roots) r (object (length (g .objects))));
@@ -135,13 +137,13 @@ module _ (Y : Layout) (law : Lawful Y) where
           rw roots-set
           (⊎-elim
           (λ (z : q ≡ r).
-          subst (λ x. Rep Y ids⁺ pl⁺ (getD (set (g .roots) r (object (length (g .objects)))) x (plain null))
+          subst (λ x. Encodes Y kept⁺ headerOf⁺ (getD (set (g .roots) r (object (length (g .objects)))) x (plain null))
           (at (set (s .roots) r (address Y (free s))) x)) (sym z)
           (rw (
             getD-set-same (g .roots) r (object (length (g .objects))) (plain null) (omega arith),
             getD-set-same (s .roots) r (address Y (free s)) 0 (omega (arith, m .count)),
           )
-          (in-last (length (g .objects)) (m .ids), ap (address Y) (sym new-pl))))
+          (in-last (length (g .objects)) (m .kept), ap (address Y) (sym new-pl))))
           (λ (d : q ≡ r → ⊥).
           rw (
             getD-set-other (g .roots) r q (object (length (g .objects))) (plain null) d,
@@ -151,10 +153,10 @@ module _ (Y : Layout) (law : Lawful Y) where
           (same? q r));
       holds = λ x i.
           ⊎-elim
-          (λ (j : In x (m .ids)).
+          (λ (j : In x (m .kept)).
           rw (old-pl x j, List·getD-append (g .objects) (blankObject k n ∷ []) (traced []) x (m .known x j)) (old-holds x j))
           (λ (e : x ≡ length (g .objects)).
-          subst (λ z. Holds Y ids⁺ pl⁺ (s⁺ .heap) (getD (g .objects ++ (blankObject k n ∷ [])) z (traced [])) (pl⁺ z)) (sym e)
+          subst (λ z. Holds Y kept⁺ headerOf⁺ (s⁺ .heap) (getD (g .objects ++ (blankObject k n ∷ [])) z (traced [])) (headerOf⁺ z)) (sym e)
           (rw (new-pl, getD-append-seam (g .objects) (blankObject k n) [] (traced [])) (new-holds k refl)))
-          (in-snoc x (length (g .objects)) (m .ids) i);
+          (in-snoc x (length (g .objects)) (m .kept) i);
     }

@@ -4,7 +4,7 @@ use native.Mathlib.Omega.{arith}
 use mathlib.Core.Path.{_≡_, refl, sym, ap, _∙_, subst}
 use mathlib.Core.Logic.{⊎-elim}
 use mathlib.Core.Bool.{true, not, _||_}
-use mathlib.Core.List.{List, []}
+use mathlib.Core.List.{List, [], _∷_}
 use lib.Dec.{leb}
 use lib.ListN.{length, getD, set, length-set}
 use lib.Seq.{getD-set-same, getD-set-other}
@@ -15,57 +15,59 @@ use Rattle.model.specs.declared.Refusal.the-variants as Why
 use Rattle.model.specs.declared.Answer.the-variants as Says
 use Rattle.model.specs.declared.Call.the-variants as Ask
 use Rattle.model.specs.Calls as Calls
-use Rattle.model.specs.Answers.{Outcome, refuse}
+use Rattle.model.specs.Answers.{Outcome, refuse, says}
 use Rattle.model.specs.Calls.{isOfKind, onField}
 use Rattle.model.specs.Changes.{noRoot, rootWord, withWord}
 use Rattle.model.specs.Graph.{null, Value, plain, object, Object, traced, untraced, Graph, nth, rootValue}
-use Rattle.model.specs.GraphCalls.{GraphOutcome, graphSays, graphRefuse, graphNoRoot, graphWithRoot, withObject, byKind, onObject, wrongKind, graphStep}
+use Rattle.model.specs.GraphCalls.{graphWithRoot, withObject, byKind, onObject, wrongKind, graphStep}
 use Rattle.model.specs.Headers.{Layout}
 use Rattle.model.specs.Objects.{isTraced, fieldIndex, address, index, kind, fieldCount, names}
 use Rattle.model.specs.Sessions.{step}
 use Rattle.model.specs.Soundness.{headers, isValue}
 use Rattle.model.specs.Words.{State, at}
+use Rattle.model.proofs.Deciding.{tests-sound}
 use Rattle.model.proofs.Keeping.{tile, field-no-header, one-object, word-sound, word-headers}
 use Rattle.model.proofs.Members.{In}
 use Rattle.model.proofs.Objects.{index-address}
-use Rattle.model.proofs.Represents.{plain-no-address, Rep, Holds, Represents, Agrees, refuse-agrees, shape-passes, same-roots, rep-value, plain-names-nothing, header-names}
-use Rattle.model.proofs.CallsOnRoots.{root-represents, has-root, two-roots}
+use Rattle.model.specs.Represents.{Encodes, Holds, Represents}
+use Rattle.model.proofs.Represents.{parts, plain-no-address, Agrees, refuse-agrees, roots-agree, rep-value, plain-names-nothing, header-names}
+use Rattle.model.proofs.CallsOnRoots.{root-represents, has-root}
 use Rattle.model.proofs.Shape.{first-in}
 use Rattle.model.proofs.Tests.{never, same?, or-none}
 
 module _ (Y : Layout) where
   -- an object of the heap whose words stay
-  pub holds-kept : (ids : List ℕ) (pl : ℕ → ℕ) (H H′ : List ℕ) (b : Object) (i : ℕ) → at H′ i ≡ at H i
-      → ((f : ℕ) → f < fieldCount Y H i → at H′ (i + 1 + f) ≡ at H (i + 1 + f)) → Holds Y ids pl H b i → Holds Y ids pl H′ b i
-  holds-kept ids pl H H′ (traced vs) i e k h =
+  pub holds-kept : (kept : List ℕ) (headerOf : ℕ → ℕ) (H H′ : List ℕ) (b : Object) (i : ℕ) → at H′ i ≡ at H i
+      → ((f : ℕ) → f < fieldCount Y H i → at H′ (i + 1 + f) ≡ at H (i + 1 + f)) → Holds Y kept headerOf H b i → Holds Y kept headerOf H′ b i
+  holds-kept kept headerOf H H′ (traced vs) i e k h =
       (ap (λ x. Y .kindOf x) e ∙ h .0, ap (λ x. Y .countOf x) e ∙ h .1, λ f l. rw (k f (let z = h .1 in omega arith)) (h .2 f l))
-  holds-kept ids pl H H′ (untraced ws) i e k h =
+  holds-kept kept headerOf H H′ (untraced ws) i e k h =
       (ap (λ x. Y .kindOf x) e ∙ h .0, ap (λ x. Y .countOf x) e ∙ h .1, λ f l. rw (k f (let z = h .1 in omega arith)) (h .2 f l))
 
   -- the object that a value's word names, or OBJECT in both
-  on-object : (s : State) (g : Graph) (m : Represents Y s g) (k : Kind) (v : Value) (w f : ℕ) (next : Outcome)
-      (t : ℕ → List Value → GraphOutcome) (u : ℕ → List ℕ → GraphOutcome)
-      → Rep Y (m .ids) (m .pl) v w
-      → ((x : ℕ) → In x (m .ids) → w ≡ address Y (m .pl x) → Agrees Y
-      (refuse (not (isOfKind k (kind Y (s .heap) (m .pl x)))) Why.Kind s
-      (refuse (leb (fieldCount Y (s .heap) (m .pl x)) f) Why.Field s next))
+  on-object : (s : State) (g : Graph) (m : Represents Y s g) (k : Kind) (v : Value) (w f : ℕ) (next : Outcome State)
+      (t : ℕ → List Value → Outcome Graph) (u : ℕ → List ℕ → Outcome Graph)
+      → Encodes Y (m .kept) (m .headerOf) v w
+      → ((x : ℕ) → In x (m .kept) → w ≡ address Y (m .headerOf x) → Agrees Y
+      (refuse (not (isOfKind k (kind Y (s .heap) (m .headerOf x)))) Why.Kind s
+      (refuse (leb (fieldCount Y (s .heap) (m .headerOf x)) f) Why.Field s next))
       (byKind (nth g x) (t x) (u x)))
       → Agrees Y (onField Y k w f s next) (onObject g v t u)
   unfolding onObject refuse
   on-object s g m k (plain p) w f next t u e a = rw (plain-names-nothing Y s w (rw (e .1) (plain-no-address p (e .0)))) (refl, m)
   on-object s g m k (object x) w f next t u e a =
-      let i = m .pl x in
+      let i = m .headerOf x in
       let hd = m .head x (e .0) in
-      let n : names Y s w ≡ true = rw (e .1) (header-names Y s (m .ok) i hd) in
+      let n : names Y s w ≡ true = rw (e .1) (header-names Y s (parts m) i hd) in
       let d : index Y w ≡ i = rw (e .1) (index-address Y i) in
       rw (n, d) (a x (e .0) (e .1))
 
   -- a field of a traced object, KIND or FIELD
-  traced-object : (s : State) (g : Graph) (m : Represents Y s g) (x f : ℕ) (next : Outcome) (t : List Value → GraphOutcome) (b : Object)
-      → Holds Y (m .ids) (m .pl) (s .heap) b (m .pl x) → ((vs : List Value) → b ≡ traced vs → f < length vs → Agrees Y next (t vs))
+  traced-object : (s : State) (g : Graph) (m : Represents Y s g) (x f : ℕ) (next : Outcome State) (t : List Value → Outcome Graph) (b : Object)
+      → Holds Y (m .kept) (m .headerOf) (s .heap) b (m .headerOf x) → ((vs : List Value) → b ≡ traced vs → f < length vs → Agrees Y next (t vs))
       → Agrees Y
-      (refuse (not (isTraced (kind Y (s .heap) (m .pl x)))) Why.Kind s (refuse (leb (fieldCount Y (s .heap) (m .pl x)) f) Why.Field s next))
-      (byKind b (λ vs. graphRefuse (leb (length vs) f) Why.Field g (t vs)) (wrongKind g x))
+      (refuse (not (isTraced (kind Y (s .heap) (m .headerOf x)))) Why.Kind s (refuse (leb (fieldCount Y (s .heap) (m .headerOf x)) f) Why.Field s next))
+      (byKind b (λ vs. refuse (leb (length vs) f) Why.Field g (t vs)) (wrongKind g x))
   unfolding refuse
   traced-object s g m x f next t (traced vs) h k =
       rw (h .0, h .1)
@@ -74,12 +76,12 @@ module _ (Y : Layout) where
   traced-object s g m x f next t (untraced ws) h k = rw (h .0) (refl, m)
 
   -- and of an untraced one
-  untraced-object : (s : State) (g : Graph) (m : Represents Y s g) (x f : ℕ) (next : Outcome) (t : List ℕ → GraphOutcome) (b : Object)
-      → Holds Y (m .ids) (m .pl) (s .heap) b (m .pl x) → ((ws : List ℕ) → b ≡ untraced ws → f < length ws → Agrees Y next (t ws))
+  untraced-object : (s : State) (g : Graph) (m : Represents Y s g) (x f : ℕ) (next : Outcome State) (t : List ℕ → Outcome Graph) (b : Object)
+      → Holds Y (m .kept) (m .headerOf) (s .heap) b (m .headerOf x) → ((ws : List ℕ) → b ≡ untraced ws → f < length ws → Agrees Y next (t ws))
       → Agrees Y
-      (refuse (not (not (isTraced (kind Y (s .heap) (m .pl x))))) Why.Kind s
-      (refuse (leb (fieldCount Y (s .heap) (m .pl x)) f) Why.Field s next))
-      (byKind b (wrongKind g x) (λ ws. graphRefuse (leb (length ws) f) Why.Field g (t ws)))
+      (refuse (not (not (isTraced (kind Y (s .heap) (m .headerOf x))))) Why.Kind s
+      (refuse (leb (fieldCount Y (s .heap) (m .headerOf x)) f) Why.Field s next))
+      (byKind b (wrongKind g x) (λ ws. refuse (leb (length ws) f) Why.Field g (t ws)))
   unfolding refuse
   untraced-object s g m x f next t (traced vs) h k = rw (h .0) (refl, m)
   untraced-object s g m x f next t (untraced ws) h k =
@@ -88,22 +90,22 @@ module _ (Y : Layout) where
       (λ a. k ws refl (leb-false (length ws) f a)))
 
   -- what the heap holds for an object of the graph
-  held : (s : State) (g : Graph) (m : Represents Y s g) (x : ℕ) (b : Object) → In x (m .ids) → nth g x ≡ b
-      → Holds Y (m .ids) (m .pl) (s .heap) b (m .pl x)
-  held s g m x b i o = subst (λ z. Holds Y (m .ids) (m .pl) (s .heap) z (m .pl x)) o (m .holds x i)
+  held : (s : State) (g : Graph) (m : Represents Y s g) (x : ℕ) (b : Object) → In x (m .kept) → nth g x ≡ b
+      → Holds Y (m .kept) (m .headerOf) (s .heap) b (m .headerOf x)
+  held s g m x b i o = subst (λ z. Holds Y (m .kept) (m .headerOf) (s .heap) z (m .headerOf x)) o (m .holds x i)
 
-  traced-field : (s : State) (g : Graph) (m : Represents Y s g) (v : Value) (w f : ℕ) (next : Outcome)
-      (t : ℕ → List Value → GraphOutcome) → Rep Y (m .ids) (m .pl) v w
-      → ((x : ℕ) (vs : List Value) → In x (m .ids) → w ≡ address Y (m .pl x) → nth g x ≡ traced vs → f < length vs → Agrees Y next (t x vs))
-      → Agrees Y (onField Y Traced w f s next) (onObject g v (λ i vs. graphRefuse (leb (length vs) f) Why.Field g (t i vs)) (wrongKind g))
+  traced-field : (s : State) (g : Graph) (m : Represents Y s g) (v : Value) (w f : ℕ) (next : Outcome State)
+      (t : ℕ → List Value → Outcome Graph) → Encodes Y (m .kept) (m .headerOf) v w
+      → ((x : ℕ) (vs : List Value) → In x (m .kept) → w ≡ address Y (m .headerOf x) → nth g x ≡ traced vs → f < length vs → Agrees Y next (t x vs))
+      → Agrees Y (onField Y Traced w f s next) (onObject g v (λ i vs. refuse (leb (length vs) f) Why.Field g (t i vs)) (wrongKind g))
   traced-field s g m v w f next t e k =
       on-object s g m Traced v w f next _ _ e (λ x i q.
       traced-object s g m x f next (t x) (nth g x) (m .holds x i) (λ vs o l. k x vs i q o l))
 
-  untraced-field : (s : State) (g : Graph) (m : Represents Y s g) (v : Value) (w f : ℕ) (next : Outcome)
-      (t : ℕ → List ℕ → GraphOutcome) → Rep Y (m .ids) (m .pl) v w
-      → ((x : ℕ) (ws : List ℕ) → In x (m .ids) → w ≡ address Y (m .pl x) → nth g x ≡ untraced ws → f < length ws → Agrees Y next (t x ws))
-      → Agrees Y (onField Y Untraced w f s next) (onObject g v (wrongKind g) (λ i ws. graphRefuse (leb (length ws) f) Why.Field g (t i ws)))
+  untraced-field : (s : State) (g : Graph) (m : Represents Y s g) (v : Value) (w f : ℕ) (next : Outcome State)
+      (t : ℕ → List ℕ → Outcome Graph) → Encodes Y (m .kept) (m .headerOf) v w
+      → ((x : ℕ) (ws : List ℕ) → In x (m .kept) → w ≡ address Y (m .headerOf x) → nth g x ≡ untraced ws → f < length ws → Agrees Y next (t x ws))
+      → Agrees Y (onField Y Untraced w f s next) (onObject g v (wrongKind g) (λ i ws. refuse (leb (length ws) f) Why.Field g (t i ws)))
   untraced-field s g m v w f next t e k =
       on-object s g m Untraced v w f next _ _ e (λ x i q.
       untraced-object s g m x f next (t x) (nth g x) (m .holds x i) (λ ws o l. k x ws i q o l))
@@ -112,61 +114,60 @@ module _ (Y : Layout) where
       → Agrees Y (step Y (Ask.Load r f q) s) (graphStep (Ask.Load r f q) g)
   unfolding step Calls.load graphStep
   load-agrees r f q s g m =
-      shape-passes Y s g _ _ m
-      (refuse-agrees Y (noRoot s r || noRoot s q) (graphNoRoot g r || graphNoRoot g q) Why.Root s g _ _ m (two-roots Y s g r q m) (λ a.
-      traced-field s g m (rootValue g r) (rootWord s r) f _ (λ i vs. graphSays Says.Done (graphWithRoot g q (getD vs f (plain null))))
+      roots-agree Y (r ∷ q ∷ []) s g _ _ m (λ a.
+      traced-field s g m (rootValue g r) (rootWord s r) f _ (λ i vs. says Says.Done (graphWithRoot g q (getD vs f (plain null))))
       (m .roots r (has-root Y s g m r (or-none (noRoot s r) (noRoot s q) a .0)))
       (λ x vs i e o l. (
         refl,
         root-represents Y s g m q (at (s .heap) (fieldIndex (index Y (rootWord s r)) f)) (getD vs f (plain null))
-            (rw (e, index-address Y (m .pl x)) (held s g m x (traced vs) i o .2 f l)),
-      ))))
+            (rw (e, index-address Y (m .headerOf x)) (held s g m x (traced vs) i o .2 f l)),
+      )))
 
   -- a field's word changes, in both
-  word-represents : (s : State) (g : Graph) (m : Represents Y s g) (x f w : ℕ) (b : Object) → In x (m .ids)
-      → f < fieldCount Y (s .heap) (m .pl x)
-      → (kind Y (s .heap) (m .pl x) ≡ Traced → isValue Y (headers Y s) w ≡ true)
-      → Holds Y (m .ids) (m .pl) (set (s .heap) (m .pl x + 1 + f) w) b (m .pl x)
-      → Represents Y (withWord s (m .pl x + 1 + f) w) (withObject g x b)
+  word-represents : (s : State) (g : Graph) (m : Represents Y s g) (x f w : ℕ) (b : Object) → In x (m .kept)
+      → f < fieldCount Y (s .heap) (m .headerOf x)
+      → (kind Y (s .heap) (m .headerOf x) ≡ Traced → isValue Y (headers Y s) w ≡ true)
+      → Holds Y (m .kept) (m .headerOf) (set (s .heap) (m .headerOf x + 1 + f) w) b (m .headerOf x)
+      → Represents Y (withWord s (m .headerOf x + 1 + f) w) (withObject g x b)
   word-represents s g m x f w b i l v h =
       let hd = m .head x i in
-      let H′ = set (s .heap) (m .pl x + 1 + f) w in
+      let H′ = set (s .heap) (m .headerOf x + 1 + f) w in
       record {
-        ok = word-sound Y s (m .ok) (m .pl x) f w hd l v;
-        ids = m .ids;
-        pl = m .pl;
+        ok = tests-sound Y (withWord s (m .headerOf x + 1 + f) w) (word-sound Y s (parts m) (m .headerOf x) f w hd l v);
+        kept = m .kept;
+        headerOf = m .headerOf;
         known = λ y j. let z = length-set (g .objects) x b in omega (arith, m .known y j);
-        head = λ y j. rw (word-headers Y s (m .ok) (m .pl x) f w hd l) (m .head y j);
+        head = λ y j. rw (word-headers Y s (parts m) (m .headerOf x) f w hd l) (m .head y j);
         apart = m .apart;
         count = m .count;
         roots = m .roots;
         holds = λ y j.
             ⊎-elim
             (λ (e : y ≡ x).
-            subst (λ z. Holds Y (m .ids) (m .pl) H′ (getD (set (g .objects) x b) z (traced [])) (m .pl z)) (sym e)
+            subst (λ z. Holds Y (m .kept) (m .headerOf) H′ (getD (set (g .objects) x b) z (traced [])) (m .headerOf z)) (sym e)
             (rw (getD-set-same (g .objects) x b (traced []) (m .known x i)) h))
             (λ (d : y ≡ x → ⊥).
             rw (getD-set-other (g .objects) x y b (traced []) d)
-            (holds-kept (m .ids) (m .pl) (s .heap) H′ (nth g y) (m .pl y)
-            (getD-set-other (s .heap) (m .pl x + 1 + f) (m .pl y) w 0
-            (field-no-header Y s (m .ok) (m .pl x) f (m .pl y) hd l (m .head y j)))
-            (λ k a. getD-set-other (s .heap) (m .pl x + 1 + f) (m .pl y + 1 + k) w 0
-            (λ e. d (m .apart y x j i (one-object Y s (m .ok) (m .pl x) f (m .pl y) k hd l (m .head y j) a e))))
+            (holds-kept (m .kept) (m .headerOf) (s .heap) H′ (nth g y) (m .headerOf y)
+            (getD-set-other (s .heap) (m .headerOf x + 1 + f) (m .headerOf y) w 0
+            (field-no-header Y s (parts m) (m .headerOf x) f (m .headerOf y) hd l (m .head y j)))
+            (λ k a. getD-set-other (s .heap) (m .headerOf x + 1 + f) (m .headerOf y + 1 + k) w 0
+            (λ e. d (m .apart y x j i (one-object Y s (parts m) (m .headerOf x) f (m .headerOf y) k hd l (m .head y j) a e))))
             (m .holds y j)))
             (same? y x);
       }
 
   -- the object's field lies in the heap, and its header stays
-  field-in : (s : State) (g : Graph) (m : Represents Y s g) (x f : ℕ) → In x (m .ids) → f < fieldCount Y (s .heap) (m .pl x)
-      → m .pl x + 1 + f < length (s .heap)
+  field-in : (s : State) (g : Graph) (m : Represents Y s g) (x f : ℕ) → In x (m .kept) → f < fieldCount Y (s .heap) (m .headerOf x)
+      → m .headerOf x + 1 + f < length (s .heap)
   field-in s g m x f i l =
-      let t = tile Y s (m .ok) (m .pl x) (m .head x i) .within in
-      let z = first-in s (m .ok .shape) in
-      omega (arith, m .ok .shape .high)
+      let t = tile Y s (parts m) (m .headerOf x) (m .head x i) .within in
+      let z = first-in s (parts m .shape) in
+      omega (arith, parts m .shape .high)
 
-  header-stays : (s : State) (g : Graph) (m : Represents Y s g) (x f w : ℕ) → In x (m .ids) → f < fieldCount Y (s .heap) (m .pl x)
-      → at (set (s .heap) (m .pl x + 1 + f) w) (m .pl x) ≡ at (s .heap) (m .pl x)
-  header-stays s g m x f w i l = getD-set-other (s .heap) (m .pl x + 1 + f) (m .pl x) w 0 (λ e. omega arith)
+  header-stays : (s : State) (g : Graph) (m : Represents Y s g) (x f w : ℕ) → In x (m .kept) → f < fieldCount Y (s .heap) (m .headerOf x)
+      → at (set (s .heap) (m .headerOf x + 1 + f) w) (m .headerOf x) ≡ at (s .heap) (m .headerOf x)
+  header-stays s g m x f w i l = getD-set-other (s .heap) (m .headerOf x + 1 + f) (m .headerOf x) w 0 (λ e. omega arith)
 
   -- a list and the heap change at one field alike
   set-alike : {A : Type 0} (R : A → ℕ → Type 0) (vs : List A) (d v : A) (H : List ℕ) (i f w : ℕ) → f < length vs → i + 1 + f < length H
@@ -182,64 +183,61 @@ module _ (Y : Layout) where
       rw (getD-set-other vs f k v d n, getD-set-other H (i + 1 + f) (i + 1 + k) w 0 (λ z. n (omega arith))) (h k a′))
       (same? k f)
 
-  store-represents : (s : State) (g : Graph) (m : Represents Y s g) (x f w : ℕ) (vs : List Value) (v : Value) → In x (m .ids)
+  store-represents : (s : State) (g : Graph) (m : Represents Y s g) (x f w : ℕ) (vs : List Value) (v : Value) → In x (m .kept)
       → nth g x ≡ traced vs → f < length vs
-      → Rep Y (m .ids) (m .pl) v w → Represents Y (withWord s (m .pl x + 1 + f) w) (withObject g x (traced (set vs f v)))
+      → Encodes Y (m .kept) (m .headerOf) v w → Represents Y (withWord s (m .headerOf x + 1 + f) w) (withObject g x (traced (set vs f v)))
   store-represents s g m x f w vs v i o l e =
       let h = held s g m x (traced vs) i o in
-      let u : f < fieldCount Y (s .heap) (m .pl x) = let z = h .1 in omega arith in
+      let u : f < fieldCount Y (s .heap) (m .headerOf x) = let z = h .1 in omega arith in
       let c = header-stays s g m x f w i u in
       word-represents s g m x f w (traced (set vs f v)) i u (λ k. rep-value Y s g m v w e) (
         ap (λ z. Y .kindOf z) c ∙ h .0,
         ap (λ z. Y .countOf z) c ∙ h .1 ∙ sym (length-set vs f v),
-        set-alike (Rep Y (m .ids) (m .pl)) vs (plain null) v (s .heap) (m .pl x) f w l (field-in s g m x f i u) (h .2) e,
+        set-alike (Encodes Y (m .kept) (m .headerOf)) vs (plain null) v (s .heap) (m .headerOf x) f w l (field-in s g m x f i u) (h .2) e,
       )
 
   pub store-agrees : (r f q : ℕ) (s : State) (g : Graph) → Represents Y s g
       → Agrees Y (step Y (Ask.Store r f q) s) (graphStep (Ask.Store r f q) g)
   unfolding step Calls.store graphStep
   store-agrees r f q s g m =
-      shape-passes Y s g _ _ m
-      (refuse-agrees Y (noRoot s r || noRoot s q) (graphNoRoot g r || graphNoRoot g q) Why.Root s g _ _ m (two-roots Y s g r q m) (λ a.
+      roots-agree Y (r ∷ q ∷ []) s g _ _ m (λ a.
       let b = or-none (noRoot s r) (noRoot s q) a in
       traced-field s g m (rootValue g r) (rootWord s r) f _
-      (λ i vs. graphSays Says.Done (withObject g i (traced (set vs f (rootValue g q)))))
+      (λ i vs. says Says.Done (withObject g i (traced (set vs f (rootValue g q)))))
       (m .roots r (has-root Y s g m r (b .0)))
       (λ x vs i e o l. (
         refl,
-        rw (e, index-address Y (m .pl x))
+        rw (e, index-address Y (m .headerOf x))
             (store-represents s g m x f (rootWord s q) vs (rootValue g q) i o l (m .roots q (has-root Y s g m q (b .1)))),
-      ))))
+      )))
 
   pub rawRead-agrees : (r f : ℕ) (s : State) (g : Graph) → Represents Y s g
       → Agrees Y (step Y (Ask.RawRead r f) s) (graphStep (Ask.RawRead r f) g)
   unfolding step Calls.rawRead graphStep
   rawRead-agrees r f s g m =
-      shape-passes Y s g _ _ m
-      (refuse-agrees Y (noRoot s r) (graphNoRoot g r) Why.Root s g _ _ m (same-roots Y s g r m) (λ a.
-      untraced-field s g m (rootValue g r) (rootWord s r) f _ (λ i ws. graphSays (Says.Number (getD ws f 0)) g)
+      roots-agree Y (r ∷ []) s g _ _ m (λ a.
+      untraced-field s g m (rootValue g r) (rootWord s r) f _ (λ i ws. says (Says.Number (getD ws f 0)) g)
       (m .roots r (has-root Y s g m r a))
-      (λ x ws i e o l. (ap Says.Number (rw (e, index-address Y (m .pl x)) (held s g m x (untraced ws) i o .2 f l)), m))))
+      (λ x ws i e o l. (ap Says.Number (rw (e, index-address Y (m .headerOf x)) (held s g m x (untraced ws) i o .2 f l)), m)))
 
-  raw-represents : (s : State) (g : Graph) (m : Represents Y s g) (x f w : ℕ) (ws : List ℕ) → In x (m .ids)
+  raw-represents : (s : State) (g : Graph) (m : Represents Y s g) (x f w : ℕ) (ws : List ℕ) → In x (m .kept)
       → nth g x ≡ untraced ws → f < length ws
-      → Represents Y (withWord s (m .pl x + 1 + f) w) (withObject g x (untraced (set ws f w)))
+      → Represents Y (withWord s (m .headerOf x + 1 + f) w) (withObject g x (untraced (set ws f w)))
   raw-represents s g m x f w ws i o l =
       let h = held s g m x (untraced ws) i o in
-      let u : f < fieldCount Y (s .heap) (m .pl x) = let z = h .1 in omega arith in
+      let u : f < fieldCount Y (s .heap) (m .headerOf x) = let z = h .1 in omega arith in
       let c = header-stays s g m x f w i u in
       word-represents s g m x f w (untraced (set ws f w)) i u (λ k. never (ap isTraced k) (ap isTraced (h .0))) (
         ap (λ z. Y .kindOf z) c ∙ h .0,
         ap (λ z. Y .countOf z) c ∙ h .1 ∙ sym (length-set ws f w),
-        set-alike (λ a b. b ≡ a) ws 0 w (s .heap) (m .pl x) f w l (field-in s g m x f i u) (h .2) refl,
+        set-alike (λ a b. b ≡ a) ws 0 w (s .heap) (m .headerOf x) f w l (field-in s g m x f i u) (h .2) refl,
       )
 
   pub rawWrite-agrees : (r f n : ℕ) (s : State) (g : Graph) → Represents Y s g
       → Agrees Y (step Y (Ask.RawWrite r f n) s) (graphStep (Ask.RawWrite r f n) g)
   unfolding step Calls.rawWrite graphStep
   rawWrite-agrees r f n s g m =
-      shape-passes Y s g _ _ m
-      (refuse-agrees Y (noRoot s r) (graphNoRoot g r) Why.Root s g _ _ m (same-roots Y s g r m) (λ a.
-      untraced-field s g m (rootValue g r) (rootWord s r) f _ (λ i ws. graphSays Says.Done (withObject g i (untraced (set ws f n))))
+      roots-agree Y (r ∷ []) s g _ _ m (λ a.
+      untraced-field s g m (rootValue g r) (rootWord s r) f _ (λ i ws. says Says.Done (withObject g i (untraced (set ws f n))))
       (m .roots r (has-root Y s g m r a))
-      (λ x ws i e o l. (refl, rw (e, index-address Y (m .pl x)) (raw-represents s g m x f n ws i o l)))))
+      (λ x ws i e o l. (refl, rw (e, index-address Y (m .headerOf x)) (raw-represents s g m x f n ws i o l))))

@@ -20,10 +20,10 @@ use Rattle.model.proofs.Members.{In}
 use Rattle.model.proofs.Objects.{cells-length, field-at, fields-length}
 use Rattle.model.proofs.Order.{free-in, order-fits, order-header}
 use Rattle.model.proofs.Packed.{packed-at, wordsBefore-fits}
-use Rattle.model.proofs.Soundness.{Sound}
+use Rattle.model.proofs.Soundness.{SoundTests}
 use Rattle.model.proofs.Tiling.{headers-tile}
 
-module _ (Y : Layout) (s : State) (h : Sound Y s) where
+module _ (Y : Layout) (s : State) (h : SoundTests Y s) where
   abbrev S : ℕ
   S = halfWords (s .heap)
 

@@ -24,11 +24,11 @@ use Rattle.model.proofs.Members.{In, in-map, map-in-out}
 use Rattle.model.proofs.Objects.{cells-length}
 use Rattle.model.proofs.Order.{orderAt-distinct, orderAt-reached, order-fits, reached-order, reached-reach, reach-reached}
 use Rattle.model.proofs.Shape.{Shaped}
-use Rattle.model.proofs.Soundness.{Sound}
+use Rattle.model.proofs.Soundness.{SoundTests}
 use Rattle.model.proofs.Tests.{by-test}
 use Rattle.model.proofs.Values.{address-value, plain-value}
 
-module _ (Y : Layout) (s : State) (h : Sound Y s) where
+module _ (Y : Layout) (s : State) (h : SoundTests Y s) where
   abbrev s′ : State
   s′ = collected Y s
 
@@ -100,7 +100,7 @@ module _ (Y : Layout) (s : State) (h : Sound Y s) where
       rw (traced-field x f m k′ l′)
       (renamed-value (at (s .heap) (x + 1 + f)) (λ p. reach-order _ (D.fromField x f (order-reach x m) k′ l′ p)))
 
-  pub new-sound : Sound Y s′
+  pub new-sound : SoundTests Y s′
   new-sound = record {
     shape = new-shape;
     null = new-null Y s h;

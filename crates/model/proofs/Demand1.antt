@@ -4,7 +4,7 @@ use native.Mathlib.Omega.{arith}
 use mathlib.Core.Path.{_≡_, refl, sym, _∙_, subst}
 use mathlib.Core.Logic.{inl, inr, ⊎-elim}
 use mathlib.Core.Bool.{Bool, true, false, not, cond}
-use mathlib.Core.List.{List, _∷_}
+use mathlib.Core.List.{List, [], _∷_}
 use lib.ListN.{length}
 use Rattle.model.specs.declared.Refusal.{Refusal}
 use Rattle.model.specs.declared.Call.{Call}
@@ -16,8 +16,10 @@ use Rattle.model.specs.declared.Call.the-variants as Ask
 use Rattle.model.specs.declared.Place.the-variants as Place
 use Rattle.model.specs.Answers.{Outcome, refuse}
 use Rattle.model.specs.Calls.{fresh}
-use Rattle.model.specs.Changes.{noRoot, rootWord}
+use Rattle.model.specs.Admission.{noRoots}
+use Rattle.model.specs.Changes.{rootWord}
 use Rattle.model.specs.Collection.{collected}
+use Rattle.model.specs.Conditions.{Decides}
 use Rattle.model.specs.Demand1 as D1
 use Rattle.model.specs.Graph.{Object}
 use Rattle.model.specs.Headers.{Layout}
@@ -28,19 +30,20 @@ use Rattle.model.specs.Shape.{badLength, badShape}
 use Rattle.model.specs.Window.{window}
 use Rattle.model.specs.Words.{State, at}
 use Rattle.model.proofs.PlainAnswers.{refused-same, done-plainly}
-use Rattle.model.proofs.Conditions.{length-decides, shape-decides, root-decides, object-decides}
+use Rattle.model.proofs.Conditions.{roots-decide, object-decides}
+use Rattle.model.proofs.Deciding.{length-decides, shape-decides}
 use Rattle.model.proofs.Demand2.{collects}
 use Rattle.model.proofs.Judged.{Left, unchanged, recollected, Judged, by-row, by-none, judged-refuse, judged-says, step-judged}
-use Rattle.model.proofs.Rows.{Settled, refused, passed, settled-refuses, Decides}
+use Rattle.model.proofs.Rows.{Settled, refused, passed, settled-refuses}
 use Rattle.model.proofs.Tests.{by-test}
 
 module _ (Y : Layout) where
-  judged-settled : (s : State) (qs : List Row.Row) (o : Outcome) → Judged Y s qs o → Settled qs (D1.Refused o)
+  judged-settled : (s : State) (qs : List Row.Row) (o : Outcome State) → Judged Y s qs o → Settled qs (D1.Refused o)
   judged-settled s qs o (by-row k f e l) = refused k f e
   judged-settled s qs o (by-none n p) = passed n p
 
   -- what a refused outcome leaves
-  judged-left : (s : State) (qs : List Row.Row) (o : Outcome) (k : Refusal) → Judged Y s qs o → o .answer ≡ Says.Refused k
+  judged-left : (s : State) (qs : List Row.Row) (o : Outcome State) (k : Refusal) → Judged Y s qs o → o .answer ≡ Says.Refused k
       → Left Y s k (o .left)
   judged-left s qs o k (by-row j f e l) a = subst (λ z. Left Y s z (o .left)) (refused-same j k (sym e ∙ a)) l
   judged-left s qs o k (by-none n p) a = absurd (p k a)
@@ -53,7 +56,7 @@ module _ (Y : Layout) where
   left-collected s t (unchanged n e) = absurd (n refl)
   left-collected s t (recollected q e) = e
 
-  one-refusal : (o : Outcome) (j k : Refusal) → D1.Refused o j → D1.Refused o k → j ≡ k
+  one-refusal : (o : Outcome State) (j k : Refusal) → D1.Refused o j → D1.Refused o k → j ≡ k
   one-refusal o j k a b = refused-same j k (sym a ∙ b)
 
   fresh-judged : (s : State) → Judged Y s (Row.freshRows s) (fresh s)
@@ -86,13 +89,13 @@ module _ (Y : Layout) where
   unfolding window
   window-settled r s =
       place-after (badShape s) Why.Shape _ _ _ (shape-decides s) (λ a.
-      place-after (noRoot s r) Why.Root _ _ _ (root-decides s r) (λ b.
+      place-after (noRoots (length (s .roots)) (r ∷ [])) Why.Root _ _ _ (roots-decide s (r ∷ [])) (λ b.
       place-after (not (names Y s (rootWord s r))) Why.Object _ _ _ (object-decides Y s r) (λ c. passed tt (object-place _ _))))
 
   one-place : (p : Place) (j k : Refusal) → p ≡ Place.Refused j → p ≡ Place.Refused k → j ≡ k
   one-place p j k a b = cc
 
-  -- the numbers rise along the rows of each call
+  -- the ranks rise along the rows of each call
   rows-rise : (c : Call) (s : State) → D1.RisingFrom 0 (Row.rows Y c s)
   rows-rise Ask.Collect s = omega arith
   rows-rise Ask.Check s = omega arith
@@ -116,7 +119,8 @@ module _ (Y : Layout) where
         λ s. settled-refuses (Row.freshRows s) _ (one-refusal (fresh s))
         (judged-settled s (Row.freshRows s) (fresh s) (fresh-judged s));
     opened = λ r s. settled-refuses (Row.windowRows Y r s) _ (one-place (window Y r s)) (window-settled r s);
-    lowest = rows-rise;
+    inOrder = rows-rise;
+    inOrderOpened = λ r s. omega arith;
     keeps = λ c s k e n. left-unchanged s (step Y c s .left) k (judged-left s (Row.rows Y c s) (step Y c s) k (step-judged Y s c) e) n;
     freshKeeps = fresh-keeps;
     collects = λ c s e. left-collected s (step Y c s .left) (judged-left s (Row.rows Y c s) (step Y c s) Why.Room (step-judged Y s c) e);

@@ -20,6 +20,7 @@ use Rattle.model.proofs.Breadth.{breadth}
 use Rattle.model.proofs.Collected.{live-is, new-length, new-first, new-half, new-free, order-tile, new-header, new-field, new-root, new-roots}
 use Rattle.model.proofs.CollectedSound.{new-tiled, becomes, reach-order, order-reach, traced-field, new-sound}
 use Rattle.model.proofs.Copies.{wordsBefore-nth}
+use Rattle.model.proofs.Deciding.{tests-sound, sound-tests}
 use Rattle.model.proofs.Discovery.{Reach, root}
 use Rattle.model.proofs.Meetings.{met, only}
 use Rattle.model.proofs.Members.{In, in-tail, in-self, in-take, distinct-once, mem-in, in-mem}
@@ -27,9 +28,9 @@ use Rattle.model.proofs.Objects.{cells-length}
 use Rattle.model.proofs.Order.{orderAt-distinct, order-fits, reach-reached, order-breadth}
 use Rattle.model.proofs.Packed.{wordsBefore-apart}
 use Rattle.model.proofs.Shape.{unshaped}
-use Rattle.model.proofs.Soundness.{Sound, sound-parts, sound-whole, sound-zero}
+use Rattle.model.proofs.Soundness.{SoundTests, sound-whole, sound-zero}
 
-module _ (Y : Layout) (s : State) (h : Sound Y s) where
+module _ (Y : Layout) (s : State) (h : SoundTests Y s) where
   abbrev s′ : State
   s′ = collected Y s
 
@@ -79,14 +80,14 @@ module _ (Y : Layout) (s : State) (h : Sound Y s) where
     cleared = sound-zero Y s′ (new-sound Y s h);
     counts = live-is Y s h ∙ sizes-packed (order Y s) (λ x m. m);
     used = new-free Y s h ∙ ap (λ x. x + live Y s) (sym (new-first Y s h));
-    again = sound-whole Y s′ (new-sound Y s h);
+    again = tests-sound Y s′ (new-sound Y s h);
   }
 
-pub demand2 : (Y : Layout) (s : State) → sound Y s ≡ true → D.Demand2 Y (machine Y) s
+pub demand2 : (Y : Layout) → D.Demand2 Y (machine Y)
 unfolding step Calls.collect refuse
-demand2 Y s e =
-    let h = sound-parts Y s e in
-    let o : step Y Ask.Collect s ≡ says (Says.Live (live Y s)) (collected Y s) = rw (unshaped s (h .shape), e) in
+demand2 Y s ok =
+    let h = sound-tests Y s ok in
+    let o : step Y Ask.Collect s ≡ says (Says.Live (live Y s)) (collected Y s) = rw (unshaped s (h .shape), sound-whole Y s h) in
     record {
       L = live Y s;
       answers = ap (λ z. z .answer) o;

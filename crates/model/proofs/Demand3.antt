@@ -1,65 +1,161 @@
--- Demand 3, of any lawful layout and of the tuple layout. Assumes nothing.
+-- Demand 3, of any layout that writes both kinds and of the tuple layout. Assumes nothing.
+use Prim.Native.Nat.{ℕ, _+_, _≤_, _<_}
 use native.Mathlib.Omega.{arith}
-use mathlib.Core.Path.{_≡_, refl, sym, ap, _∙_}
-use mathlib.Core.Bool.{Bool}
+use mathlib.Core.Path.{_≡_, refl, sym, ap, _∙_, subst}
+use mathlib.Core.Logic.{⊎-elim, _↔_}
+use mathlib.Core.Bool.{false}
+use mathlib.Core.List.{List}
+use mathlib.Core.Option.{some}
 use lib.Dec.{eqb}
+use lib.ListN.{length}
+use borrow.Author.Tests.{lt-ltb, le-ltb, le-leb, lt-leb}
+use Rattle.model.specs.declared.Kind.{Kind}
 use Rattle.model.specs.declared.Refusal.{Refusal}
 use Rattle.model.specs.declared.Refusal.the-variants as Why
-use Rattle.model.specs.Answers.{number}
-use Rattle.model.specs.Collection.{live}
+use Rattle.model.specs.declared.Answer.the-variants as Says
+use Rattle.model.specs.declared.Call.{Call}
+use Rattle.model.specs.declared.Call.the-variants as Ask
+use Rattle.model.specs.Answers.{refuse, number}
 use Rattle.model.specs.Demand3 as D3
-use Rattle.model.specs.Graph.{emptyGraph, totalWords, graphOrder}
-use Rattle.model.specs.GraphCalls.{graphAfter}
-use Rattle.model.specs.Headers.{Layout, Lawful, tuple}
-use Rattle.model.specs.Sessions.{machine, after}
-use Rattle.model.specs.Words.{halfWords}
-use Rattle.model.proofs.CallAllocate.{allocate-room}
+use Rattle.model.specs.Graph.{Graph, emptyGraph, totalWords, graphOrder, graphLive}
+use Rattle.model.specs.GraphCalls.{graphStep, graphAfter}
+use Rattle.model.specs.Headers.{Layout, WritesBoth, tuple}
+use Rattle.model.specs.Limits.{maxFields}
+use Rattle.model.specs.Represents.{Represents}
+use Rattle.model.specs.Sessions.{step, machine, after}
+use Rattle.model.specs.Words.{State, halfWords}
+use Rattle.model.proofs.CallAllocate.{allocate-room, Full}
 use Rattle.model.proofs.CallCollect.{live-same}
+use Rattle.model.proofs.Deciding.{sound-tests, tests-sound}
+use Rattle.model.proofs.GraphAnswers.{graph-room}
 use Rattle.model.proofs.GraphClosed.{session-known}
 use Rattle.model.proofs.GraphReach.{lists-whole, live-listed}
 use Rattle.model.proofs.Headers.{tuple-lawful}
-use Rattle.model.proofs.KeepSound.{step-sound}
-use Rattle.model.proofs.Session.{runs, after-represents, session-refuses}
-use Rattle.model.proofs.Soundness.{sound-whole}
-use Rattle.model.proofs.Start.{begun-represents, begun-half, begun-roots}
-use Rattle.model.proofs.Tests.{never}
+use Rattle.model.proofs.KeepSound.{stays-sound}
+use Rattle.model.proofs.PlainAnswers.{done-plainly}
+use Rattle.model.proofs.Represents.{parts, represents-known, Agrees}
+use Rattle.model.proofs.Session.{step-goes, runs, after-represents, session-refuses}
+use Rattle.model.proofs.Standing.{sound-represents}
+use Rattle.model.proofs.Start.{begun-represents, begun-half}
+use Rattle.model.proofs.Tests.{never, decide}
+use Rattle.model.proofs.Values.{some-same}
+use Rattle.model.proofs.Visits.{no-some}
 
-pub demand3-of : (Y : Layout) → Lawful Y → D3.Demand3 Y (machine Y)
-demand3-of Y law = record {
-  sameAnswers = λ small large S S⁺ n k q q⁺ cs v v⁺ le few f.
-      runs Y law cs k (D3.begun (machine Y) small n q) (D3.begun (machine Y) large n q⁺) (emptyGraph n)
-      (begun-represents Y small S n q v few) (begun-represents Y large S⁺ n q⁺ v⁺ few)
-      (omega (arith, begun-half Y small S n q v few, begun-half Y large S⁺ n q⁺ v⁺ few)) f;
-  room = λ words S n q cs k m r v few l u.
-      let s = D3.begun (machine Y) words n q in
-      let t = after-represents Y law cs (D3.begun (machine Y) words n q) (emptyGraph n) (begun-represents Y words S n q v few) in
-      let e : halfWords (after (machine Y) cs (D3.begun (machine Y) words n q) .heap) ≡ S = t .1 ∙ begun-half Y words S n q v few in
-      let d = allocate-room Y k m r (after (machine Y) cs (D3.begun (machine Y) words n q)) (t .0 .ok)
-      (omega (arith, t .2, begun-roots Y words S n q v few)) u in
-      let w = live-same Y (after (machine Y) cs (D3.begun (machine Y) words n q))
-      (graphAfter (D3.carriedOut (machine Y) cs (D3.begun (machine Y) words n q)) (emptyGraph n)) (t .0) in
-      (λ x. let y = d .0 x in omega arith, λ x. d .1 (omega arith));
-  listable =
-      λ cs n. (
-        graphOrder (graphAfter cs (emptyGraph n)) (totalWords (graphAfter cs (emptyGraph n) .objects)),
-        lists-whole (graphAfter cs (emptyGraph n)) (session-known cs n),
-      );
-  live = λ cs n o l. live-listed (graphAfter cs (emptyGraph n)) (session-known cs n) o l;
-  keepsSound = step-sound Y law;
-  staysSound = λ words S n q cs v few.
-      sound-whole Y (after (machine Y) cs (D3.begun (machine Y) words n q))
-      (after-represents Y law cs (D3.begun (machine Y) words n q) (emptyGraph n) (begun-represents Y words S n q v few) .0 .ok);
-  neverShape = λ words S n q cs v few.
-      session-refuses Y law cs (D3.begun (machine Y) words n q) (emptyGraph n) (begun-represents Y words S n q v few) Why.Shape
-      (λ e. never refl (ap ofRoom (sym e))) refl;
-  neverDamaged = λ words S n q cs v few.
-      session-refuses Y law cs (D3.begun (machine Y) words n q) (emptyGraph n) (begun-represents Y words S n q v few) Why.Damaged
-      (λ e. never refl (ap ofRoom (sym e))) refl;
+-- ---- the live words of a graph whose reachable objects are all its own
+
+live-words : (g : Graph) → ((i : ℕ) → D3.Reachable g i → i < length (g .objects)) → D3.LiveWords g
+live-words g known = record {
+  listable = (graphOrder g (totalWords (g .objects)), lists-whole g known);
+  live = live-listed g known;
 }
-  where
-    -- ROOM told from the others
-    ofRoom : Refusal → Bool
-    ofRoom k = eqb (number k) 9
+
+-- ---- "no room"
+
+module _ (g : Graph) (k : Kind) (n r : ℕ) where
+  -- an allocation that the graph carries out has a root and a count that are legal, and one that has is carried out
+  allocation-legal : ((j : Refusal) → graphStep (Ask.Allocate k n r) g .answer ≡ Says.Refused j → ⊥)
+      → (r < length (g .roots)) × (n ≤ maxFields)
+  unfolding graphStep refuse
+  allocation-legal f =
+      ⊎-elim
+      (λ (a : r < length (g .roots)).
+      ⊎-elim
+      (λ (b : maxFields < n). absurd (f Why.Count (rw (lt-leb (length (g .roots)) r a, lt-ltb maxFields n b))))
+      (λ (b : n ≤ maxFields). (a, b))
+      (decide maxFields n))
+      (λ (a : length (g .roots) ≤ r). absurd (f Why.Root (rw (le-leb (length (g .roots)) r a))))
+      (decide r (length (g .roots)))
+
+  legal-carried : r < length (g .roots) → n ≤ maxFields → graphStep (Ask.Allocate k n r) g .answer ≡ Says.Done
+  unfolding graphStep refuse
+  legal-carried a b = rw (lt-leb (length (g .roots)) r a, le-ltb maxFields n b)
+
+module _ (Y : Layout) (law : WritesBoth Y) where
+  module _ (s : State) (g : Graph) (m : Represents Y s g) where
+    abbrev S : ℕ
+    S = halfWords (s .heap)
+
+    full-exceeds : (c : Call) → step Y c s .answer ≡ D3.noRoom → Full Y c s g (step Y c s) → D3.Exceeds S g c
+    full-exceeds c e u =
+        let a = allocate-room Y (u .kind) (u .fields) (u .to) s (parts m) (u .named) (u .small) .0
+        (ap (λ z. step Y z s .answer) (sym (u .is)) ∙ e) in
+        record {
+          unrefused = λ k q. done-plainly k
+              (sym (legal-carried g (u .kind) (u .fields) (u .to) (omega (arith, u .named, m .count)) (u .small))
+              ∙ ap (λ z. graphStep z g .answer) (sym (u .is)) ∙ q);
+          words = u .fields + 1;
+          needs = ap D3.needed (u .is);
+          exceed = omega (arith, live-same Y s g m);
+        }
+
+    exceeds-full : (c : Call) → D3.Exceeds S g c → step Y c s .answer ≡ D3.noRoom
+    exceeds-full (Ask.Allocate k n r) x =
+        let l = allocation-legal g k n r (x .unrefused) in
+        let e : n + 1 ≡ x .words = some-same (n + 1) (x .words) (x .needs) in
+        allocate-room Y k n r s (parts m) (let z = l .0 in omega (arith, m .count)) (l .1) .1
+        (omega (arith, x .exceed, live-same Y s g m))
+    exceeds-full Ask.Collect x = absurd (no-some (x .words) (x .needs))
+    exceeds-full Ask.Check x = absurd (no-some (x .words) (x .needs))
+    exceeds-full (Ask.SetInteger r v) x = absurd (no-some (x .words) (x .needs))
+    exceeds-full (Ask.SetNull r) x = absurd (no-some (x .words) (x .needs))
+    exceeds-full (Ask.Copy from to) x = absurd (no-some (x .words) (x .needs))
+    exceeds-full (Ask.Load r f to) x = absurd (no-some (x .words) (x .needs))
+    exceeds-full (Ask.Store r f from) x = absurd (no-some (x .words) (x .needs))
+    exceeds-full (Ask.RawRead r f) x = absurd (no-some (x .words) (x .needs))
+    exceeds-full (Ask.RawWrite r f w) x = absurd (no-some (x .words) (x .needs))
+    exceeds-full (Ask.Same r q) x = absurd (no-some (x .words) (x .needs))
+    exceeds-full (Ask.Inspect r) x = absurd (no-some (x .words) (x .needs))
+
+    room-here : (c : Call) → (step Y c s .answer ≡ D3.noRoom) ↔ D3.Exceeds S g c
+    room-here c = (
+      λ e.
+          ⊎-elim (λ (u : Full Y c s g (step Y c s)). full-exceeds c e u)
+          (λ (a : Agrees Y (step Y c s) (graphStep c g)). absurd (graph-room c g (sym (a .0) ∙ e)))
+          (step-goes Y law c s g m),
+      exceeds-full c,
+    )
+
+  room : (s : State) (g : Graph) → Represents Y s g → D3.RoomExactly (machine Y) (halfWords (s .heap)) s g
+  room s g m cs c =
+      let t = after-represents Y law cs s g m in
+      subst (λ z. (step Y c (after (machine Y) cs s) .answer ≡ D3.noRoom) ↔ D3.Exceeds z (graphAfter (D3.carriedOut (machine Y) cs s) g) c)
+      (t .1)
+      (room-here (after (machine Y) cs s) (graphAfter (D3.carriedOut (machine Y) cs s) g) (t .0) c)
+
+  -- a refusal that neither the graph nor a full heap gives
+  not-given : (k : Refusal) → eqb (number k) 9 ≡ false → k ≡ Why.Room → ⊥
+  not-given k e q = never refl (ap (λ z. eqb (number z) 9) (sym q) ∙ e)
+
+  never-shape : (s : State) (g : Graph) → Represents Y s g → D3.Never (machine Y) Why.Shape s
+  never-shape s g m cs = session-refuses Y law cs s g m Why.Shape (not-given Why.Shape refl) refl
+
+  never-damaged : (s : State) (g : Graph) → Represents Y s g → D3.Never (machine Y) Why.Damaged s
+  never-damaged s g m cs = session-refuses Y law cs s g m Why.Damaged (not-given Why.Damaged refl) refl
+
+  pub demand3-of : D3.Demand3 Y (machine Y)
+  demand3-of = record {
+    sameAnswers = λ small large g m m⁺ l cs k. runs Y law cs k small large g m m⁺ l;
+    room = room;
+    live = λ s g m. live-words g (represents-known Y s g m);
+    neverShape = never-shape;
+    neverDamaged = never-damaged;
+    keepsSound = λ s c h. tests-sound Y (step Y c s .left) (stays-sound Y s (sound-tests Y s h) law c);
+    stands = λ s g cs m. after-represents Y law cs s g m .0;
+    every = λ s w h. (_, sound-represents Y s (sound-tests Y s h) w);
+    begins = begun-represents Y;
+    freshAnswers = λ small large e l cs k.
+        runs Y law cs k (D3.begun (machine Y) small) (D3.begun (machine Y) large) (emptyGraph (small .roots))
+        (begun-represents Y small)
+        (subst (λ n. Represents Y (D3.begun (machine Y) large) (emptyGraph n)) (sym e) (begun-represents Y large))
+        (omega (arith, begun-half Y small, begun-half Y large));
+    freshRoom = λ e.
+        subst (λ n. D3.RoomExactly (machine Y) n (D3.begun (machine Y) e) (emptyGraph (e .roots))) (begun-half Y e)
+        (room (D3.begun (machine Y) e) (emptyGraph (e .roots)) (begun-represents Y e));
+    freshLive = λ cs n. live-words (graphAfter cs (emptyGraph n)) (session-known cs n);
+    staysSound = λ e cs. after-represents Y law cs (D3.begun (machine Y) e) (emptyGraph (e .roots)) (begun-represents Y e) .0 .ok;
+    freshNeverShape = λ e. never-shape (D3.begun (machine Y) e) (emptyGraph (e .roots)) (begun-represents Y e);
+    freshNeverDamaged = λ e. never-damaged (D3.begun (machine Y) e) (emptyGraph (e .roots)) (begun-represents Y e);
+  }
 
 pub demand3 : D3.Demand3 tuple (machine tuple)
-demand3 = demand3-of tuple tuple-lawful
+demand3 = demand3-of tuple (tuple-lawful .writes)

@@ -21,7 +21,7 @@ use Rattle.model.proofs.Discovery.{found-later}
 use Rattle.model.proofs.Members.{In}
 use Rattle.model.proofs.Order.{reached-header, orderAt-reached, orderAt-fits, order-fits}
 use Rattle.model.proofs.Packed.{wordsBefore-append}
-use Rattle.model.proofs.Soundness.{Sound}
+use Rattle.model.proofs.Soundness.{SoundTests}
 use Rattle.model.proofs.Stage.{stage-passed, stage-rest}
 use Rattle.model.proofs.Tests.{by-test, decide}
 use Rattle.model.proofs.Values.{address-leads}
@@ -46,7 +46,7 @@ module _ (Y : Layout) where
   settle-stable H o o′ b (still w) t f = refl
   settle-stable H o o′ b (value w) t f = rename-stable H o o′ b w t f
 
-module _ (Y : Layout) (s : State) (h : Sound Y s) (p : ℕ) where
+module _ (Y : Layout) (s : State) (h : SoundTests Y s) (p : ℕ) where
   abbrev O : List ℕ
   O = orderAt Y s p
 

@@ -6,14 +6,15 @@ use Rattle.model.specs.declared.Call.{Call}
 use Rattle.model.specs.declared.Refusal.the-variants as Why
 use Rattle.model.specs.declared.Answer.the-variants as Says
 use Rattle.model.specs.Demand3 as D3
+use Rattle.model.specs.Answers.{Outcome}
 use Rattle.model.specs.Graph.{Graph}
-use Rattle.model.specs.GraphCalls.{GraphOutcome, graphStep}
+use Rattle.model.specs.GraphCalls.{graphStep}
 use Rattle.model.proofs.GraphLeaving.{ofGraph, graph-step}
 use Rattle.model.proofs.PlainAnswers.{refused-same, done-plainly}
 use Rattle.model.proofs.Tests.{never}
 
 -- it refuses, if at all, with a refusal that a graph can give
-abbrev pub Mild : GraphOutcome → Type 0
+abbrev pub Mild : Outcome Graph → Type 0
 Mild o = (k : Refusal) → o .answer ≡ Says.Refused k → ofGraph k ≡ true
 
 done-mild : (k : Refusal) → Says.Done ≡ Says.Refused k → ofGraph k ≡ true

@@ -13,8 +13,9 @@ use Rattle.model.specs.declared.Call.{Call}
 use Rattle.model.specs.declared.Refusal.the-variants as Why
 use Rattle.model.specs.declared.Answer.the-variants as Says
 use Rattle.model.specs.declared.Call.the-variants as Ask
+use Rattle.model.specs.Answers.{Outcome, says, refuse}
 use Rattle.model.specs.Graph.{Plain, integer, null, Value, plain, object, Object, traced, untraced, Graph, nth, rootValue, graphLive}
-use Rattle.model.specs.GraphCalls.{GraphOutcome, graphSays, graphRefuse, graphWithRoot, withObject, grown, sameValue, byKind, onObject, plainAnswer, inspected, graphStep}
+use Rattle.model.specs.GraphCalls.{graphWithRoot, withObject, grown, sameValue, byKind, onObject, plainAnswer, inspected, graphStep}
 use Rattle.model.proofs.PlainAnswers.{Plainly, plainly, either-plainly, object-plainly, plain-plainly}
 use Rattle.model.proofs.Tests.{cond-holds}
 
@@ -31,31 +32,31 @@ ofGraph Why.Damaged = false
 ofGraph Why.Room = false
 
 -- the answers that change nothing, and the changes, each with what the call knows of its object
-pub record GraphKept (g : Graph) (P : GraphOutcome → Type 0) : Type 0 where
-  pub refused : (k : Refusal) → ofGraph k ≡ true → P (graphSays (Says.Refused k) g)
-  pub answered : (a : Answer) → Plainly a → P (graphSays a g)
-  pub set-plain : (r : ℕ) (p : Plain) → P (graphSays Says.Done (graphWithRoot g r (plain p)))
-  pub copied : (from to : ℕ) → P (graphSays Says.Done (graphWithRoot g to (rootValue g from)))
-  pub loaded : (i f to : ℕ) (vs : List Value) → nth g i ≡ traced vs → P (graphSays Says.Done (graphWithRoot g to (getD vs f (plain null))))
+pub record GraphKept (g : Graph) (P : Outcome Graph → Type 0) : Type 0 where
+  pub refused : (k : Refusal) → ofGraph k ≡ true → P (says (Says.Refused k) g)
+  pub answered : (a : Answer) → Plainly a → P (says a g)
+  pub set-plain : (r : ℕ) (p : Plain) → P (says Says.Done (graphWithRoot g r (plain p)))
+  pub copied : (from to : ℕ) → P (says Says.Done (graphWithRoot g to (rootValue g from)))
+  pub loaded : (i f to : ℕ) (vs : List Value) → nth g i ≡ traced vs → P (says Says.Done (graphWithRoot g to (getD vs f (plain null))))
   pub stored : (i f from : ℕ) (vs : List Value) → nth g i ≡ traced vs
-      → P (graphSays Says.Done (withObject g i (traced (set vs f (rootValue g from)))))
-  pub written : (i f x : ℕ) (ws : List ℕ) → P (graphSays Says.Done (withObject g i (untraced (set ws f x))))
-  pub allocated : (k : Kind) (n r : ℕ) → P (graphSays Says.Done (grown k n r g))
+      → P (says Says.Done (withObject g i (traced (set vs f (rootValue g from)))))
+  pub written : (i f x : ℕ) (ws : List ℕ) → P (says Says.Done (withObject g i (untraced (set ws f x))))
+  pub allocated : (k : Kind) (n r : ℕ) → P (says Says.Done (grown k n r g))
 
-data Holds (P : GraphOutcome → Type 0) : GraphOutcome → Type 0 where
-  holds : {o : GraphOutcome} → P o → Holds P o
+data Holds (P : Outcome Graph → Type 0) : Outcome Graph → Type 0 where
+  holds : {o : Outcome Graph} → P o → Holds P o
 
-module _ (g : Graph) (P : GraphOutcome → Type 0) (h : GraphKept g P) where
-  after : (b : Bool) (k : Refusal) (o : GraphOutcome) → ofGraph k ≡ true → Holds P o → Holds P (graphRefuse b k g o)
-  unfolding graphRefuse
+module _ (g : Graph) (P : Outcome Graph → Type 0) (h : GraphKept g P) where
+  after : (b : Bool) (k : Refusal) (o : Outcome Graph) → ofGraph k ≡ true → Holds P o → Holds P (refuse b k g o)
+  unfolding refuse
   after b k o e p = cond-holds (Holds P) b _ o (λ t. holds (h .refused k e)) (λ t. p)
 
-  by-kind : (b : Object) (t : List Value → GraphOutcome) (u : List ℕ → GraphOutcome)
+  by-kind : (b : Object) (t : List Value → Outcome Graph) (u : List ℕ → Outcome Graph)
       → ((vs : List Value) → b ≡ traced vs → Holds P (t vs)) → ((ws : List ℕ) → Holds P (u ws)) → Holds P (byKind b t u)
   by-kind (traced vs) t u f w = f vs refl
   by-kind (untraced ws) t u f w = w ws
 
-  on-object : (v : Value) (t : ℕ → List Value → GraphOutcome) (u : ℕ → List ℕ → GraphOutcome)
+  on-object : (v : Value) (t : ℕ → List Value → Outcome Graph) (u : ℕ → List ℕ → Outcome Graph)
       → ((i : ℕ) (vs : List Value) → nth g i ≡ traced vs → Holds P (t i vs)) → ((i : ℕ) (ws : List ℕ) → Holds P (u i ws))
       → Holds P (onObject g v t u)
   unfolding onObject
@@ -71,8 +72,8 @@ module _ (g : Graph) (P : GraphOutcome → Type 0) (h : GraphKept g P) where
 
   step-holds : (c : Call) → Holds P (graphStep c g)
   unfolding graphStep
-  step-holds Ask.Collect = holds (h .answered _ (plainly (Says.Live (graphLive g)) refl))
-  step-holds Ask.Check = holds (h .answered _ (plainly Says.Sound refl))
+  step-holds Ask.Collect = after _ Why.Root _ refl (holds (h .answered _ (plainly (Says.Live (graphLive g)) refl)))
+  step-holds Ask.Check = after _ Why.Root _ refl (holds (h .answered _ (plainly Says.Sound refl)))
   step-holds (Ask.Allocate k n r) = after _ Why.Root _ refl (after _ Why.Count _ refl (holds (h .allocated k n r)))
   step-holds (Ask.SetInteger r v) = after _ Why.Root _ refl (after _ Why.Range _ refl (holds (h .set-plain r (integer v))))
   step-holds (Ask.SetNull r) = after _ Why.Root _ refl (holds (h .set-plain r null))
@@ -100,5 +101,5 @@ module _ (g : Graph) (P : GraphOutcome → Type 0) (h : GraphKept g P) where
   pub graph-step : (c : Call) → P (graphStep c g)
   graph-step c = go (graphStep c g) (step-holds c)
     where
-      go : (o : GraphOutcome) → Holds P o → P o
+      go : (o : Outcome Graph) → Holds P o → P o
       go o (holds p) = p

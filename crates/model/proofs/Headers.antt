@@ -34,4 +34,7 @@ unfolding tuple
 tuple-unmarks i = omega arith
 
 pub tuple-lawful : Lawful tuple
-tuple-lawful = record { clear = tuple-clear; counts = tuple-counts; kinds = tuple-kinds; marks = tuple-marks; unmarks = tuple-unmarks }
+tuple-lawful = record {
+  writes = λ k. record { clear = tuple-clear k; counts = tuple-counts k; kinds = tuple-kinds k };
+  forwards = record { marks = tuple-marks; unmarks = tuple-unmarks };
+}

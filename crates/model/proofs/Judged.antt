@@ -6,7 +6,8 @@ use mathlib.Core.Logic.{inl, inr}
 use mathlib.Core.Bool.{Bool, true, false, not, _||_, true≢false}
 use mathlib.Core.List.{List, [], _∷_}
 use lib.Dec.{eqb}
-use borrow.Author.Tests.{eqb-true, eqb-false, eq-eqb, ne-eqb, not-false}
+use lib.ListN.{length}
+use borrow.Author.Tests.{eqb-true, not-false}
 use Rattle.model.specs.declared.Kind.{Kind}
 use Rattle.model.specs.declared.Kind.the-variants.{Traced, Untraced}
 use Rattle.model.specs.declared.Refusal.{Refusal}
@@ -18,8 +19,10 @@ use Rattle.model.specs.declared.Call.the-variants as Ask
 use Rattle.model.specs.Calls as Calls
 use Rattle.model.specs.Answers.{Outcome, says, refuse, number}
 use Rattle.model.specs.Calls.{onField}
-use Rattle.model.specs.Changes.{noRoot, rootWord, fits}
+use Rattle.model.specs.Admission.{noRoots, onRoots}
+use Rattle.model.specs.Changes.{rootWord, fits}
 use Rattle.model.specs.Collection.{live, collected}
+use Rattle.model.specs.Conditions.{Decides, BadShape}
 use Rattle.model.specs.Demand1 as D1
 use Rattle.model.specs.Graph.{Object}
 use Rattle.model.specs.Headers.{Layout}
@@ -28,13 +31,12 @@ use Rattle.model.specs.Refusals as Row
 use Rattle.model.specs.Sessions.{step}
 use Rattle.model.specs.Shape.{badShape}
 use Rattle.model.specs.Soundness.{sound}
-use Rattle.model.specs.Values.{isOdd, isNull, isAddress}
+use Rattle.model.specs.Values.{isOdd, isNull}
 use Rattle.model.specs.Words.{State}
 use Rattle.model.proofs.PlainAnswers.{Plainly, plainly, done-plainly, either-plainly, object-plainly}
-use Rattle.model.proofs.Conditions.{shape-decides, no-roots, root-decides, roots-decide, count-decides, range-decides, object-decides, value-decides, kind-decides, field-decides, unsound-decides, called, uncalled, damaged-decides, room-decides}
-use Rattle.model.proofs.Rows.{Decides}
-use Rattle.model.proofs.Soundness.{Sound}
-use Rattle.model.proofs.Tests.{cond-holds, never}
+use Rattle.model.proofs.Conditions.{roots-decide, count-decides, range-decides, object-decides, value-decides, kind-decides, field-decides, unsound-decides, called, uncalled, damaged-decides, room-decides}
+use Rattle.model.proofs.Deciding.{shape-decides, other-address}
+use Rattle.model.proofs.Tests.{cond-holds}
 
 -- what a call refused with k leaves: what it was lent, or the collection for ROOM
 pub data Left (Y : Layout) (s : State) (k : Refusal) (t : State) : Type 0 where
@@ -42,9 +44,9 @@ pub data Left (Y : Layout) (s : State) (k : Refusal) (t : State) : Type 0 where
   recollected : k ≡ Why.Room → t ≡ collected Y s → Left Y s k t
 
 -- an outcome by the rows of its call
-pub data Judged (Y : Layout) (s : State) (qs : List Row.Row) : Outcome → Type 0 where
-  by-row : {o : Outcome} (k : Refusal) → D1.First qs k → o .answer ≡ Says.Refused k → Left Y s k (o .left) → Judged Y s qs o
-  by-none : {o : Outcome} → D1.None qs → Plainly (o .answer) → Judged Y s qs o
+pub data Judged (Y : Layout) (s : State) (qs : List Row.Row) : Outcome State → Type 0 where
+  by-row : {o : Outcome State} (k : Refusal) → D1.First qs k → o .answer ≡ Says.Refused k → Left Y s k (o .left) → Judged Y s qs o
+  by-none : {o : Outcome State} → D1.None qs → Plainly (o .answer) → Judged Y s qs o
 
 -- ROOM told from the others by its number
 abbrev notRoom : Refusal → Bool
@@ -54,18 +56,18 @@ not-room : (k : Refusal) → notRoom k ≡ true → k ≡ Why.Room → ⊥
 not-room k e q = true≢false (sym e ∙ ap notRoom q)
 
 module _ (Y : Layout) (s : State) where
-  judged-after : (q : Row.Row) (qs : List Row.Row) (o : Outcome) → (q .applies → ⊥) → Judged Y s qs o → Judged Y s (q ∷ qs) o
+  judged-after : (q : Row.Row) (qs : List Row.Row) (o : Outcome State) → (q .applies → ⊥) → Judged Y s qs o → Judged Y s (q ∷ qs) o
   judged-after q qs o n (by-row k f e l) = by-row k (inr (n, f)) e l
   judged-after q qs o n (by-none m p) = by-none (n, m) p
 
-  pub judged-refuse : (b : Bool) (k : Refusal) (P : Type 0) (qs : List Row.Row) (o : Outcome) → notRoom k ≡ true → Decides b P
+  pub judged-refuse : (b : Bool) (k : Refusal) (P : Type 0) (qs : List Row.Row) (o : Outcome State) → notRoom k ≡ true → Decides b P
       → (b ≡ false → Judged Y s qs o)
       → Judged Y s (Row.row k P ∷ qs) (refuse b k s o)
   unfolding refuse
   judged-refuse true k P qs o e d f = by-row k (inl (d .holds refl, refl)) refl (unchanged (not-room k e) refl)
   judged-refuse false k P qs o e d f = judged-after (Row.row k P) qs o (d .fails refl) (f refl)
 
-  judged-room : (b : Bool) (P : Type 0) (o : Outcome) → Decides b P → Plainly (o .answer)
+  judged-room : (b : Bool) (P : Type 0) (o : Outcome State) → Decides b P → Plainly (o .answer)
       → Judged Y s (Row.row Why.Room P ∷ []) (refuse b Why.Room (collected Y s) o)
   unfolding refuse
   judged-room true P o d p = by-row Why.Room (inl (d .holds refl, refl)) refl (recollected refl refl)
@@ -74,25 +76,15 @@ module _ (Y : Layout) (s : State) where
   pub judged-says : (a : Answer) (t : State) → Plainly a → Judged Y s [] (says a t)
   judged-says a t p = by-none tt p
 
-  -- SHAPE first
-  judged-shape : (qs : List Row.Row) (o : Outcome) → Judged Y s qs o
-      → Judged Y s (Row.row Why.Shape (Row.BadShape s) ∷ qs) (refuse (badShape s) Why.Shape s o)
-  judged-shape qs o t = judged-refuse (badShape s) Why.Shape (Row.BadShape s) qs o refl (shape-decides s) (λ e. t)
-
-  -- then ROOT: no root named, one, or two
-  judged-none : (qs : List Row.Row) (o : Outcome) → Judged Y s qs o → Judged Y s (Row.row Why.Root (Row.NoRoot s []) ∷ qs) o
-  judged-none qs o t = judged-after _ qs o (no-roots s) t
-
-  judged-root : (r : ℕ) (qs : List Row.Row) (o : Outcome) → Judged Y s qs o
-      → Judged Y s (Row.row Why.Root (Row.NoRoot s (r ∷ [])) ∷ qs) (refuse (noRoot s r) Why.Root s o)
-  judged-root r qs o t = judged-refuse (noRoot s r) Why.Root _ qs o refl (root-decides s r) (λ e. t)
-
-  judged-roots : (r q : ℕ) (qs : List Row.Row) (o : Outcome) → Judged Y s qs o
-      → Judged Y s (Row.row Why.Root (Row.NoRoot s (r ∷ q ∷ [])) ∷ qs) (refuse (noRoot s r || noRoot s q) Why.Root s o)
-  judged-roots r q qs o t = judged-refuse (noRoot s r || noRoot s q) Why.Root _ qs o refl (roots-decide s r q) (λ e. t)
+  -- SHAPE first, then ROOT
+  judged-roots : (named : List ℕ) (qs : List Row.Row) (o : Outcome State) → Judged Y s qs o
+      → Judged Y s (Row.admittedRows named s qs) (onRoots named s o)
+  judged-roots named qs o t =
+      judged-refuse (badShape s) Why.Shape (BadShape s) _ _ refl (shape-decides s) (λ e.
+      judged-refuse (noRoots (length (s .roots)) named) Why.Root (Row.NoRoot s named) qs o refl (roots-decide s named) (λ f. t))
 
   -- OBJECT, KIND, FIELD
-  judged-field : (k : Kind) (r f : ℕ) (o : Outcome) → Plainly (o .answer)
+  judged-field : (k : Kind) (r f : ℕ) (o : Outcome State) → Plainly (o .answer)
       → Judged Y s (Row.fieldRows Y k r f s) (onField Y k (rootWord s r) f s o)
   judged-field k r f o p =
       judged-refuse _ Why.Object _ _ _ refl (object-decides Y s r) (λ a.
@@ -102,49 +94,39 @@ module _ (Y : Layout) (s : State) where
 
   -- inspect: a word that is odd or 0 is no address
   odd-no-value : (r : ℕ) → isOdd (rootWord s r) ≡ true → Row.NoValue Y s r → ⊥
-  odd-no-value r e v =
-      let o = eqb-true (rootWord s r % 2) 1 e in
-      never (v .0) (rw (ne-eqb (rootWord s r % 2) 0 (λ z. omega arith)))
+  odd-no-value r e v = let o = eqb-true (rootWord s r % 2) 1 e in omega (arith, v .even)
 
   null-no-value : (r : ℕ) → isNull (rootWord s r) ≡ true → Row.NoValue Y s r → ⊥
-  null-no-value r e v = never (v .0) (rw (eqb-true (rootWord s r) 0 e))
-
-  other-address : (r : ℕ) → isOdd (rootWord s r) ≡ false → isNull (rootWord s r) ≡ false → isAddress (rootWord s r) ≡ true
-  other-address r e f =
-      let o : rootWord s r % 2 ≡ 1 → ⊥ = eqb-false (rootWord s r % 2) 1 e in
-      rw (eq-eqb (rootWord s r % 2) 0 (omega arith), f)
+  null-no-value r e v = v .notNull (eqb-true (rootWord s r) 0 e)
 
   pub step-judged : (c : Call) → Judged Y s (Row.rows Y c s) (step Y c s)
   unfolding step Calls.collect Calls.check Calls.allocate Calls.setInteger Calls.setNull Calls.copy Calls.load Calls.store
       Calls.rawRead Calls.rawWrite Calls.same Calls.inspect
   step-judged Ask.Collect =
-      judged-shape _ _
-      (judged-none _ _
-      (judged-refuse _ Why.Damaged _ _ _ refl (unsound-decides Y s) (λ e.
-      judged-says _ _ (plainly (Says.Live (live Y s)) refl))))
+      judged-roots [] _ _
+      (judged-refuse _ Why.Damaged _ _ _ refl (unsound-decides Y s) (λ e. judged-says _ _ (plainly (Says.Live (live Y s)) refl)))
   step-judged Ask.Check =
-      judged-shape _ _ (judged-none _ _ (judged-says _ s (either-plainly (sound Y s) Says.Sound Says.Unsound refl refl)))
+      judged-roots [] _ _ (judged-says _ s (either-plainly (sound Y s) Says.Sound Says.Unsound refl refl))
   step-judged (Ask.Allocate k n r) =
-      judged-shape _ _ (judged-root r _ _ (judged-refuse _ Why.Count _ _ _ refl (count-decides n) (λ a.
+      judged-roots (r ∷ []) _ _ (judged-refuse _ Why.Count _ _ _ refl (count-decides n) (λ a.
       cond-holds (Judged Y s _) (fits n s) _ _
       (λ b. by-none ((λ c. uncalled n s b (c .0)), ((λ c. uncalled n s b (c .0)), tt)) done-plainly)
       (λ b.
       let c = called n s b in
       judged-refuse _ Why.Damaged _ _ _ refl (damaged-decides Y n s c) (λ d.
-      judged-room _ _ _ (room-decides n s (collected Y s) c) done-plainly)))))
+      judged-room _ _ _ (room-decides n s (collected Y s) c) done-plainly))))
   step-judged (Ask.SetInteger r v) =
-      judged-shape _ _ (judged-root r _ _ (judged-refuse _ Why.Range _ _ _ refl (range-decides v) (λ e. judged-says _ _ done-plainly)))
-  step-judged (Ask.SetNull r) = judged-shape _ _ (judged-root r _ _ (judged-says _ _ done-plainly))
-  step-judged (Ask.Copy p q) = judged-shape _ _ (judged-roots p q _ _ (judged-says _ _ done-plainly))
-  step-judged (Ask.Load r f q) = judged-shape _ _ (judged-roots r q _ _ (judged-field Traced r f _ done-plainly))
-  step-judged (Ask.Store r f q) = judged-shape _ _ (judged-roots r q _ _ (judged-field Traced r f _ done-plainly))
-  step-judged (Ask.RawRead r f) = judged-shape _ _ (judged-root r _ _ (judged-field Untraced r f _ (plainly (Says.Number _) refl)))
-  step-judged (Ask.RawWrite r f n) = judged-shape _ _ (judged-root r _ _ (judged-field Untraced r f _ done-plainly))
+      judged-roots (r ∷ []) _ _ (judged-refuse _ Why.Range _ _ _ refl (range-decides v) (λ e. judged-says _ _ done-plainly))
+  step-judged (Ask.SetNull r) = judged-roots (r ∷ []) _ _ (judged-says _ _ done-plainly)
+  step-judged (Ask.Copy p q) = judged-roots (p ∷ q ∷ []) _ _ (judged-says _ _ done-plainly)
+  step-judged (Ask.Load r f q) = judged-roots (r ∷ q ∷ []) _ _ (judged-field Traced r f _ done-plainly)
+  step-judged (Ask.Store r f q) = judged-roots (r ∷ q ∷ []) _ _ (judged-field Traced r f _ done-plainly)
+  step-judged (Ask.RawRead r f) = judged-roots (r ∷ []) _ _ (judged-field Untraced r f _ (plainly (Says.Number _) refl))
+  step-judged (Ask.RawWrite r f n) = judged-roots (r ∷ []) _ _ (judged-field Untraced r f _ done-plainly)
   step-judged (Ask.Same p q) =
-      judged-shape _ _
-      (judged-roots p q _ _ (judged-says _ s (either-plainly (eqb (rootWord s p) (rootWord s q)) Says.Yes Says.No refl refl)))
+      judged-roots (p ∷ q ∷ []) _ _ (judged-says _ s (either-plainly (eqb (rootWord s p) (rootWord s q)) Says.Yes Says.No refl refl))
   step-judged (Ask.Inspect r) =
-      judged-shape _ _ (judged-root r _ _
+      judged-roots (r ∷ []) _ _
       (cond-holds (Judged Y s _) (isOdd (rootWord s r)) _ _ (λ a. by-none (odd-no-value r a, tt) (plainly (Says.Integer _) refl)) (λ a.
       cond-holds (Judged Y s _) (isNull (rootWord s r)) _ _ (λ b. by-none (null-no-value r b, tt) (plainly Says.Null refl)) (λ b.
-      judged-refuse _ Why.Object _ _ _ refl (value-decides Y s r (other-address r a b)) (λ d. judged-says _ _ (object-plainly _ _))))))
+      judged-refuse _ Why.Object _ _ _ refl (value-decides Y s r (other-address (rootWord s r) a b)) (λ d. judged-says _ _ (object-plainly _ _)))))

@@ -9,7 +9,7 @@ use Rattle.model.specs.declared.Kind.the-variants.{Traced, Untraced}
 use Rattle.model.specs.declared.Call.{Call}
 use Rattle.model.specs.Changes.{rootWord, spare}
 use Rattle.model.specs.Collection.{collected}
-use Rattle.model.specs.Headers.{Layout, Lawful}
+use Rattle.model.specs.Headers.{Layout, WritesBoth}
 use Rattle.model.specs.Objects.{isTraced, fieldIndex, index, names}
 use Rattle.model.specs.Sessions.{step}
 use Rattle.model.specs.Soundness.{headers, sound}
@@ -21,11 +21,11 @@ use Rattle.model.proofs.Keeping.{root-sound, word-sound}
 use Rattle.model.proofs.Leaving.{HasField, step-left}
 use Rattle.model.proofs.Members.{In}
 use Rattle.model.proofs.Placing.{zero-value, place-sound}
-use Rattle.model.proofs.Soundness.{Sound, sound-parts, sound-whole}
+use Rattle.model.proofs.Soundness.{SoundTests, sound-parts, sound-whole}
 use Rattle.model.proofs.Tests.{by-test, never}
 use Rattle.model.proofs.Values.{value-header, plain-value}
 
-module _ (Y : Layout) (s : State) (h : Sound Y s) where
+module _ (Y : Layout) (s : State) (h : SoundTests Y s) where
   -- a word that names an object is an address
   names-address : (w : ℕ) → names Y s w ≡ true → isAddress w ≡ true
   unfolding names
@@ -33,11 +33,11 @@ module _ (Y : Layout) (s : State) (h : Sound Y s) where
       ⊎-elim (λ (p : isAddress w ≡ true). p) (λ (p : isAddress w ≡ false). never refl (sym (rw p at e))) (by-test (isAddress w))
 
   -- and in a sound state that of a header of the tiling
-  is-header : (k : Kind) (r f : ℕ) → HasField Y s k r f → In (index Y (rootWord s r)) (headers Y s)
+  pub is-header : (k : Kind) (r f : ℕ) → HasField Y s k r f → In (index Y (rootWord s r)) (headers Y s)
   is-header k r f g = value-header Y (headers Y s) (rootWord s r) (h .roots r (g .root)) (names-address (rootWord s r) (g .named))
 
-  stays-sound : Lawful Y → (c : Call) → Sound Y (step Y c s .left)
-  stays-sound law = step-left Y s (Sound Y) (record {
+  pub stays-sound : WritesBoth Y → (c : Call) → SoundTests Y (step Y c s .left)
+  stays-sound law = step-left Y s (SoundTests Y) (record {
     itself = h;
     integer = λ r v e. root-sound Y s h r (tag v) (plain-value Y (headers Y s) (tag v) (tag-no-address v e));
     null = λ r. root-sound Y s h r 0 (zero-value Y (headers Y s));
@@ -54,6 +54,3 @@ module _ (Y : Layout) (s : State) (h : Sound Y s) where
     collectedNow = λ e. new-sound Y s h;
     placedThen = λ k n r e l f. place-sound Y law (collected Y s) (new-sound Y s h) k n r l (leb-true (n + 1) (spare (collected Y s)) f);
   })
-
-pub step-sound : (Y : Layout) → Lawful Y → (s : State) (c : Call) → sound Y s ≡ true → sound Y (step Y c s .left) ≡ true
-step-sound Y law s c e = sound-whole Y (step Y c s .left) (stays-sound Y s (sound-parts Y s e) law c)

@@ -18,11 +18,11 @@ use Rattle.model.specs.Words.{State, at, halfWords, other, firstOf, firs
 use Rattle.model.proofs.Members.{In}
 use Rattle.model.proofs.Retiling.{tiles-same}
 use Rattle.model.proofs.Shape.{first-in, halves-apart}
-use Rattle.model.proofs.Soundness.{Sound}
+use Rattle.model.proofs.Soundness.{SoundTests}
 use Rattle.model.proofs.Tests.{decide, same?}
 use Rattle.model.proofs.Tiling.{Tile, headers-tile, headers-apart}
 
-module _ (Y : Layout) (s : State) (h : Sound Y s) where
+module _ (Y : Layout) (s : State) (h : SoundTests Y s) where
   pub tile : (i : ℕ) → In i (headers Y s) → Tile Y (s .heap) (firstWord s) (free s) i
   tile i m = headers-tile Y (s .heap) (free s) (free s - firstWord s) (firstWord s) i (h .tiled) m
 
@@ -33,7 +33,7 @@ module _ (Y : Layout) (s : State) (h : Sound Y s) where
       omega arith
 
   -- a root gets a value
-  pub root-sound : (r w : ℕ) → isValue Y (headers Y s) w ≡ true → Sound Y (withRoot s r w)
+  pub root-sound : (r w : ℕ) → isValue Y (headers Y s) w ≡ true → SoundTests Y (withRoot s r w)
   root-sound r w v = record {
     shape = record {
       odd = h .shape .odd;
@@ -81,7 +81,7 @@ module _ (Y : Layout) (s : State) (h : Sound Y s) where
 
     pub with-sound : ((i f : ℕ) → In i (headers Y s) → kind Y (s .heap) i ≡ Traced → f < fieldCount Y (s .heap) i
         → isValue Y (headers Y s) (at H′ (i + 1 + f)) ≡ true)
-        → Sound Y with
+        → SoundTests Y with
     with-sound vals = record {
       shape = record {
         odd = len ∙ h .shape .odd ∙ ap (λ x. 2 * x + 1) (sym with-room);
@@ -128,7 +128,7 @@ module _ (Y : Layout) (s : State) (h : Sound Y s) where
   -- a field is stored
   pub word-sound : (i f w : ℕ) → In i (headers Y s) → f < fieldCount Y (s .heap) i
       → (kind Y (s .heap) i ≡ Traced → isValue Y (headers Y s) w ≡ true)
-      → Sound Y (withWord s (i + 1 + f) w)
+      → SoundTests Y (withWord s (i + 1 + f) w)
   word-sound i f w m l v =
       with-sound (set (s .heap) (i + 1 + f) w) (length-set (s .heap) (i + 1 + f) w)
       (λ j b. getD-set-other (s .heap) (i + 1 + f) j w 0 (field-no-header i f j m l b))

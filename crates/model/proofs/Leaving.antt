@@ -3,6 +3,7 @@
 use Prim.Native.Nat.{ℕ, _≤_, _<_}
 use mathlib.Core.Path.{_≡_}
 use mathlib.Core.Bool.{Bool, true, false, not}
+use mathlib.Core.List.{List, [], _∷_}
 use lib.Dec.{leb}
 use lib.IntN.{ℤ}
 use lib.ListN.{length}
@@ -16,6 +17,7 @@ use Rattle.model.specs.declared.Call.the-variants as Ask
 use Rattle.model.specs.Answers.{Outcome, refuse}
 use Rattle.model.specs.Calls as Calls
 use Rattle.model.specs.Calls.{isOfKind, onField}
+use Rattle.model.specs.Admission.{noRoots, onRoots}
 use Rattle.model.specs.Changes.{noRoot, rootWord, withRoot, withWord, fits, placed}
 use Rattle.model.specs.Collection.{collected}
 use Rattle.model.specs.Headers.{Layout}
@@ -51,10 +53,10 @@ pub record Kept (Y : Layout) (s : State) (P : State → Type 0) : Type 0 where
   pub placedThen : (k : Kind) (n r : ℕ) → sound Y s ≡ true → n ≤ maxFields → fits n (collected Y s) ≡ true
       → P (placed Y k n r (collected Y s))
 
-data Leaves (P : State → Type 0) : Outcome → Type 0 where
-  leaves : {o : Outcome} → P (o .left) → Leaves P o
+data Leaves (P : State → Type 0) : Outcome State → Type 0 where
+  leaves : {o : Outcome State} → P (o .left) → Leaves P o
 
-refuse-leaves : (P : State → Type 0) (b : Bool) (k : Refusal) (s : State) (o : Outcome) → P s → (b ≡ false → Leaves P o)
+refuse-leaves : (P : State → Type 0) (b : Bool) (k : Refusal) (s : State) (o : Outcome State) → P s → (b ≡ false → Leaves P o)
     → Leaves P (refuse b k s o)
 unfolding refuse
 refuse-leaves P b k s o p f = cond-holds (Leaves P) b _ o (λ e. leaves p) f
@@ -64,10 +66,14 @@ module _ (Y : Layout) (s : State) (P : State → Type 0) (h : Kept Y s P) where
   legal-root r e = leb-false (length (s .roots)) r e
 
   -- a test that refuses and changes nothing
-  after : (b : Bool) (k : Refusal) (o : Outcome) → (b ≡ false → Leaves P o) → Leaves P (refuse b k s o)
+  after : (b : Bool) (k : Refusal) (o : Outcome State) → (b ≡ false → Leaves P o) → Leaves P (refuse b k s o)
   after b k o f = refuse-leaves P b k s o (h .itself) f
 
-  on-field : (k : Kind) (r f : ℕ) (o : Outcome) → r < length (s .roots) → (HasField Y s k r f → Leaves P o)
+  on-roots : (named : List ℕ) (o : Outcome State) → (badShape s ≡ false → noRoots (length (s .roots)) named ≡ false → Leaves P o)
+      → Leaves P (onRoots named s o)
+  on-roots named o f = after (badShape s) Why.Shape _ (λ a. after (noRoots (length (s .roots)) named) Why.Root o (λ b. f a b))
+
+  on-field : (k : Kind) (r f : ℕ) (o : Outcome State) → r < length (s .roots) → (HasField Y s k r f → Leaves P o)
       → Leaves P (onField Y k (rootWord s r) f s o)
   on-field k r f o l g =
       let i = index Y (rootWord s r) in
@@ -84,43 +90,42 @@ module _ (Y : Layout) (s : State) (P : State → Type 0) (h : Kept Y s P) where
   step-leaves : (c : Call) → Leaves P (step Y c s)
   unfolding step Calls.collect Calls.check Calls.allocate Calls.setInteger Calls.setNull Calls.copy Calls.load Calls.store
       Calls.rawRead Calls.rawWrite Calls.same Calls.inspect
-  step-leaves Ask.Collect = after _ Why.Shape _ (λ a. after _ Why.Damaged _ (λ b. leaves (h .collectedNow (not-false (sound Y s) b))))
-  step-leaves Ask.Check = after _ Why.Shape _ (λ a. leaves (h .itself))
+  step-leaves Ask.Collect = on-roots [] _ (λ a b. after _ Why.Damaged _ (λ c. leaves (h .collectedNow (not-false (sound Y s) c))))
+  step-leaves Ask.Check = on-roots [] _ (λ a b. leaves (h .itself))
   step-leaves (Ask.Allocate k n r) =
-      after _ Why.Shape _ (λ a. after _ Why.Root _ (λ b. after _ Why.Count _ (λ c.
+      on-roots (r ∷ []) _ (λ a b. after _ Why.Count _ (λ c.
       let small : n ≤ maxFields = ltb-false maxFields n c in
       cond-holds (Leaves P) (fits n s) _ _
       (λ d. leaves (h .placedNow k n r a small d))
       (λ d. after _ Why.Damaged _ (λ e.
       let good = not-false (sound Y s) e in
       refuse-leaves P _ Why.Room (collected Y s) _ (h .collectedNow good) (λ f.
-      leaves (h .placedThen k n r good small (not-false (fits n (collected Y s)) f))))))))
+      leaves (h .placedThen k n r good small (not-false (fits n (collected Y s)) f)))))))
   step-leaves (Ask.SetInteger r v) =
-      after _ Why.Shape _ (λ a. after _ Why.Root _ (λ b. after _ Why.Range _ (λ c. leaves (h .integer r v (not-false (inRange v) c)))))
-  step-leaves (Ask.SetNull r) = after _ Why.Shape _ (λ a. after _ Why.Root _ (λ b. leaves (h .null r)))
+      on-roots (r ∷ []) _ (λ a b. after _ Why.Range _ (λ c. leaves (h .integer r v (not-false (inRange v) c))))
+  step-leaves (Ask.SetNull r) = on-roots (r ∷ []) _ (λ a b. leaves (h .null r))
   step-leaves (Ask.Copy from to) =
-      after _ Why.Shape _ (λ a.
-      after _ Why.Root _ (λ b. leaves (h .copied from to (legal-root from (or-none (noRoot s from) (noRoot s to) b .0)))))
+      on-roots (from ∷ to ∷ []) _ (λ a b. leaves (h .copied from to (legal-root from (or-none (noRoot s from) (noRoot s to) b .0))))
   step-leaves (Ask.Load r f to) =
-      after _ Why.Shape _ (λ a. after _ Why.Root _ (λ b.
-      on-field Traced r f _ (legal-root r (or-none (noRoot s r) (noRoot s to) b .0)) (λ g. leaves (h .loaded r f to g))))
+      on-roots (r ∷ to ∷ []) _ (λ a b.
+      on-field Traced r f _ (legal-root r (or-none (noRoot s r) (noRoot s to) b .0)) (λ g. leaves (h .loaded r f to g)))
   step-leaves (Ask.Store r f from) =
-      after _ Why.Shape _ (λ a. after _ Why.Root _ (λ b.
+      on-roots (r ∷ from ∷ []) _ (λ a b.
       let c = or-none (noRoot s r) (noRoot s from) b in
-      on-field Traced r f _ (legal-root r (c .0)) (λ g. leaves (h .stored r f from g (legal-root from (c .1))))))
+      on-field Traced r f _ (legal-root r (c .0)) (λ g. leaves (h .stored r f from g (legal-root from (c .1)))))
   step-leaves (Ask.RawRead r f) =
-      after _ Why.Shape _ (λ a. after _ Why.Root _ (λ b. on-field Untraced r f _ (legal-root r b) (λ g. leaves (h .itself))))
+      on-roots (r ∷ []) _ (λ a b. on-field Untraced r f _ (legal-root r b) (λ g. leaves (h .itself)))
   step-leaves (Ask.RawWrite r f x) =
-      after _ Why.Shape _ (λ a. after _ Why.Root _ (λ b. on-field Untraced r f _ (legal-root r b) (λ g. leaves (h .written r f x g))))
-  step-leaves (Ask.Same r q) = after _ Why.Shape _ (λ a. after _ Why.Root _ (λ b. leaves (h .itself)))
+      on-roots (r ∷ []) _ (λ a b. on-field Untraced r f _ (legal-root r b) (λ g. leaves (h .written r f x g)))
+  step-leaves (Ask.Same r q) = on-roots (r ∷ q ∷ []) _ (λ a b. leaves (h .itself))
   step-leaves (Ask.Inspect r) =
-      after _ Why.Shape _ (λ a. after _ Why.Root _ (λ b.
+      on-roots (r ∷ []) _ (λ a b.
       cond-holds (Leaves P) (isOdd (rootWord s r)) _ _ (λ c. leaves (h .itself)) (λ c.
       cond-holds (Leaves P) (isNull (rootWord s r)) _ _ (λ d. leaves (h .itself)) (λ d.
-      after _ Why.Object _ (λ e. leaves (h .itself))))))
+      after _ Why.Object _ (λ e. leaves (h .itself)))))
 
   pub step-left : (c : Call) → P (step Y c s .left)
   step-left c = go (step Y c s) (step-leaves c)
     where
-      go : (o : Outcome) → Leaves P o → P (o .left)
+      go : (o : Outcome State) → Leaves P o → P (o .left)
       go o (leaves p) = p

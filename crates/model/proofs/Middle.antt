@@ -29,7 +29,7 @@ use Rattle.model.proofs.Members.{In, Out, Distinct}
 use Rattle.model.proofs.Objects.{field-at, fields-length}
 use Rattle.model.proofs.Order.{free-in}
 use Rattle.model.proofs.Packed.{packed-append, packed-within, find}
-use Rattle.model.proofs.Soundness.{Sound}
+use Rattle.model.proofs.Soundness.{SoundTests}
 use Rattle.model.proofs.Tests.{same?}
 use Rattle.model.proofs.Tiling.{headers-apart, headers-words}
 use Rattle.model.proofs.Values.{value-header, cell-leads}
@@ -101,7 +101,7 @@ module _ (Y : Layout) (H : List ℕ) where
 
 -- ---- the objects of a sound heap
 
-module _ (Y : Layout) (s : State) (h : Sound Y s) where
+module _ (Y : Layout) (s : State) (h : SoundTests Y s) where
   abbrev H : List ℕ
   H = s .heap
 

@@ -24,13 +24,13 @@ use Rattle.model.proofs.Lists.{getD-map}
 use Rattle.model.proofs.Members.{In, Distinct}
 use Rattle.model.proofs.Packed.{packed-within}
 use Rattle.model.proofs.Shape.{first-in}
-use Rattle.model.proofs.Soundness.{Sound}
+use Rattle.model.proofs.Soundness.{SoundTests}
 use Rattle.model.proofs.Tests.{by-test}
 use Rattle.model.proofs.Tiling.{headers-tile, headers-words}
 use Rattle.model.proofs.Values.{leads-address, address-leads, value-header, cell-leads, field-leads}
 use Rattle.model.proofs.Visits.{no-some}
 
-module _ (Y : Layout) (s : State) (h : Sound Y s) where
+module _ (Y : Layout) (s : State) (h : SoundTests Y s) where
   abbrev pub Reached : ℕ → Type 0
   Reached = Reach (cells Y (s .heap)) (still 0) (cellLeads Y) (map (wordLeads Y) (s .roots))
 

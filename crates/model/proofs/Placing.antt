@@ -15,7 +15,7 @@ use Rattle.model.specs.declared.Kind.the-variants.{Traced}
 use Rattle.model.specs.Changes.{spare, placed}
 use Rattle.model.specs.Discovery.{mem}
 use Rattle.model.specs.Graph.{null}
-use Rattle.model.specs.Headers.{Layout, Lawful}
+use Rattle.model.specs.Headers.{Layout, WritesBoth}
 use Rattle.model.specs.Limits.{maxFields}
 use Rattle.model.specs.Objects.{address, index, kind, fieldCount, size}
 use Rattle.model.specs.Soundness.{tiles, headersFrom, headers, isValue}
@@ -26,7 +26,7 @@ use Rattle.model.proofs.Lists.{sets-before, sets-in, sets-past}
 use Rattle.model.proofs.Members.{In, in-append-left, in-snoc, in-last}
 use Rattle.model.proofs.Retiling.{tiles-snoc}
 use Rattle.model.proofs.Shape.{first-in, halves-apart}
-use Rattle.model.proofs.Soundness.{Sound}
+use Rattle.model.proofs.Soundness.{SoundTests}
 use Rattle.model.proofs.Tests.{decide, same?, or-cases, or-left, or-right, and-both, both-and}
 use Rattle.model.proofs.Values.{address-value}
 
@@ -47,7 +47,7 @@ module _ (Y : Layout) where
   unfolding isValue
   zero-value hs = refl
 
-module _ (Y : Layout) (law : Lawful Y) (s : State) (h : Sound Y s) (k : Kind) (n r : ℕ) (small : n ≤ maxFields)
+module _ (Y : Layout) (law : WritesBoth Y) (s : State) (h : SoundTests Y s) (k : Kind) (n r : ℕ) (small : n ≤ maxFields)
     (fit : n + 1 ≤ spare s) where
   abbrev s⁺ : State
   s⁺ = placed Y k n r s
@@ -105,7 +105,7 @@ module _ (Y : Layout) (law : Lawful Y) (s : State) (h : Sound Y s) (k : Kind) (n
       (decide j (free s))
 
   pub place-size : size Y (s⁺ .heap) (free s) ≡ n + 1
-  place-size = ap (λ x. Y .countOf x + 1) place-header ∙ ap (λ x. x + 1) (law .counts k n small)
+  place-size = ap (λ x. Y .countOf x + 1) place-header ∙ ap (λ x. x + 1) (law k .counts n small)
 
   place-both : (tiles Y (s⁺ .heap) (free s + (n + 1)) (free s + (n + 1) - firstWord s) (firstWord s) ≡ true)
       × (headersFrom Y (s⁺ .heap) (free s + (n + 1)) (free s + (n + 1) - firstWord s) (firstWord s) ≡ headers Y s ++ (free s ∷ []))
@@ -113,7 +113,7 @@ module _ (Y : Layout) (law : Lawful Y) (s : State) (h : Sound Y s) (k : Kind) (n
       tiles-snoc Y (s .heap) (s⁺ .heap) (free s) (free s + (n + 1)) (free s - firstWord s) (free s + (n + 1) - firstWord s)
       (firstWord s) (h .tiled)
       (λ j m. place-other j (λ e. let t = tile Y s h j m .within in omega arith))
-      (ap (λ x. Y .isHeader x) place-header ∙ law .clear k n small)
+      (ap (λ x. Y .isHeader x) place-header ∙ law k .clear n small)
       (ap (λ x. free s + x) (sym place-size))
       (omega (arith, h .shape .low))
 
@@ -159,7 +159,7 @@ module _ (Y : Layout) (law : Lawful Y) (s : State) (h : Sound Y s) (k : Kind) (n
       (zero-value Y (headers Y s ++ (free s ∷ []))))
       (in-snoc i (free s) (headers Y s) m)
 
-  pub place-sound : Sound Y s⁺
+  pub place-sound : SoundTests Y s⁺
   place-sound = record {
     shape = record {
       odd = place-length ∙ h .shape .odd ∙ ap (λ x. 2 * x + 1) (sym place-room);

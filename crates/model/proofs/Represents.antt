@@ -1,106 +1,92 @@
--- A heap that stands for a graph: each object of the graph that is known has a header of the heap as its place. Assumes nothing.
-use Prim.Native.Nat.{ℕ, _+_, _%_, _<_}
+-- A heap that stands for a graph: what follows for its words, and calls that both answer alike. Assumes nothing.
+use Prim.Native.Nat.{ℕ, _+_, _%_, _≤_, _<_}
 use native.Mathlib.Omega.{arith}
-use mathlib.Core.Path.{_≡_, refl, ap}
+use mathlib.Core.Path.{_≡_, refl, sym, ap, _∙_, subst}
+use mathlib.Core.Logic.{⊎-elim}
 use mathlib.Core.Bool.{Bool, true, false}
 use mathlib.Core.List.{List}
 use lib.Dec.{leb}
-use lib.ListN.{length, getD}
+use lib.ListN.{length, getD, List·getD-eq-default}
 use borrow.Author.Tests.{eq-eqb, ne-eqb, lt-ltb, le-leb}
 use Rattle.model.specs.declared.Kind.the-variants.{Traced, Untraced}
 use Rattle.model.specs.declared.Refusal.{Refusal}
 use Rattle.model.specs.declared.Refusal.the-variants as Why
 use Rattle.model.specs.Answers.{Outcome, refuse}
-use Rattle.model.specs.Changes.{noRoot, rootWord}
-use Rattle.model.specs.Graph.{Plain, integer, null, Value, plain, object, Object, traced, untraced, Graph, nth, rootValue}
-use Rattle.model.specs.GraphCalls.{GraphOutcome, graphRefuse, graphNoRoot}
+use Rattle.model.specs.Admission.{noRoots, onRoots}
+use Rattle.model.specs.Demand3 as D3
+use Rattle.model.specs.Graph.{Plain, integer, null, Value, plain, object, Object, traced, Graph, nth, rootValue}
+use Rattle.model.specs.GraphCalls.{onGraphRoots}
+use Rattle.model.specs.Changes.{rootWord}
 use Rattle.model.specs.Headers.{Layout}
+use Rattle.model.specs.Represents.{plainWord, hasWord, Encodes, Holds, Represents}
 use Rattle.model.specs.Objects.{address, kind, fieldCount, size, names}
 use Rattle.model.specs.Shape.{badShape}
 use Rattle.model.specs.Soundness.{headers, isValue}
 use Rattle.model.specs.Values.{isOdd, isNull, isAddress, inRange, tag}
 use Rattle.model.specs.Words.{State, at, firstWord, free}
+use Rattle.model.proofs.Deciding.{sound-tests}
 use Rattle.model.proofs.Integers.{tag-no-address}
 use Rattle.model.proofs.Keeping.{tile}
 use Rattle.model.proofs.Members.{In}
 use Rattle.model.proofs.Objects.{index-address}
 use Rattle.model.proofs.Shape.{unshaped, first-in}
-use Rattle.model.proofs.Soundness.{Sound}
-use Rattle.model.proofs.Tests.{never}
+use Rattle.model.proofs.Soundness.{SoundTests}
+use Rattle.model.proofs.Tests.{never, decide}
 use Rattle.model.proofs.Values.{address-value, plain-value}
-
--- the word of a plain value, and which values have one
-abbrev pub plainWord : Plain → ℕ
-plainWord (integer v) = tag v
-plainWord null = 0
-
-abbrev pub hasWord : Plain → Bool
-hasWord (integer v) = inRange v
-hasWord null = true
 
 pub plain-no-address : (p : Plain) → hasWord p ≡ true → isAddress (plainWord p) ≡ false
 plain-no-address (integer v) h = tag-no-address v h
 plain-no-address null h = refl
 
+plain-object : (p : Plain) (x : ℕ) → plain p ≡ object x → ⊥
+plain-object p x e = let z : _≡_ {A = ℕ} 0 1 = cc in omega arith
+
+object-same : (x y : ℕ) → object x ≡ object y → x ≡ y
+object-same x y e = cc
+
+-- the tests of a heap that stands for a graph
+pub parts : {Y : Layout} {s : State} {g : Graph} → Represents Y s g → SoundTests Y s
+parts {Y} {s} m = sound-tests Y s (m .ok)
+
 module _ (Y : Layout) where
-  -- a value and its word, where `ids` are the objects with a place and `pl` is the place
-  abbrev pub Rep : List ℕ → (ℕ → ℕ) → Value → ℕ → Type 0
-  Rep ids pl (plain p) w = (hasWord p ≡ true) × (w ≡ plainWord p)
-  Rep ids pl (object x) w = In x ids × (w ≡ address Y (pl x))
-
-  -- an object and the words from its header's index on
-  abbrev pub Holds : List ℕ → (ℕ → ℕ) → List ℕ → Object → ℕ → Type 0
-  Holds ids pl H (traced vs) i =
-      (kind Y H i ≡ Traced) × (fieldCount Y H i ≡ length vs)
-      × ((f : ℕ) → f < length vs → Rep ids pl (getD vs f (plain null)) (at H (i + 1 + f)))
-  Holds ids pl H (untraced ws) i =
-      (kind Y H i ≡ Untraced) × (fieldCount Y H i ≡ length ws) × ((f : ℕ) → f < length ws → at H (i + 1 + f) ≡ getD ws f 0)
-
-  pub record Represents (s : State) (g : Graph) : Type 0 where
-    pub ok : Sound Y s
-    -- the objects that have a place, the reachable ones among them
-    pub ids : List ℕ
-    pub pl : ℕ → ℕ
-    pub known : (x : ℕ) → In x ids → x < length (g .objects)
-    pub head : (x : ℕ) → In x ids → In (pl x) (headers Y s)
-    pub apart : (x y : ℕ) → In x ids → In y ids → pl x ≡ pl y → x ≡ y
-    pub count : length (s .roots) ≡ length (g .roots)
-    pub roots : (r : ℕ) → r < length (g .roots) → Rep ids pl (rootValue g r) (rootWord s r)
-    pub holds : (x : ℕ) → In x ids → Holds ids pl (s .heap) (nth g x) (pl x)
-
   -- a call's outcome in both
-  abbrev pub Agrees : Outcome → GraphOutcome → Type 0
-  Agrees o q = (o .answer ≡ q .answer) × Represents (o .left) (q .left)
+  abbrev pub Agrees : Outcome State → Outcome Graph → Type 0
+  Agrees o q = (o .answer ≡ q .answer) × Represents Y (o .left) (q .left)
 
-  pub refuse-agrees : (b c : Bool) (k : Refusal) (s : State) (g : Graph) (o : Outcome) (q : GraphOutcome) → Represents s g → b ≡ c
-      → (b ≡ false → Agrees o q) → Agrees (refuse b k s o) (graphRefuse c k g q)
-  unfolding refuse graphRefuse
+  pub refuse-agrees : (b c : Bool) (k : Refusal) (s : State) (g : Graph) (o : Outcome State) (q : Outcome Graph) → Represents Y s g → b ≡ c
+      → (b ≡ false → Agrees o q) → Agrees (refuse b k s o) (refuse c k g q)
+  unfolding refuse
   refuse-agrees true true k s g o q m e f = (refl, m)
   refuse-agrees true false k s g o q m e f = never refl e
   refuse-agrees false true k s g o q m e f = never e refl
   refuse-agrees false false k s g o q m e f = f refl
 
   -- a heap that stands for a graph has its shape
-  pub shape-passes : (s : State) (g : Graph) (o : Outcome) (q : GraphOutcome) → Represents s g → Agrees o q
+  pub shape-passes : (s : State) (g : Graph) (o : Outcome State) (q : Outcome Graph) → Represents Y s g → Agrees o q
       → Agrees (refuse (badShape s) Why.Shape s o) q
   unfolding refuse
-  shape-passes s g o q m a = rw (unshaped s (m .ok .shape)) a
+  shape-passes s g o q m a = rw (unshaped s (parts m .shape)) a
 
-  pub same-roots : (s : State) (g : Graph) (r : ℕ) → Represents s g → noRoot s r ≡ graphNoRoot g r
-  same-roots s g r m = ap (λ x. leb x r) (m .count)
+  -- and as many roots: SHAPE and ROOT come alike
+  pub roots-agree : (named : List ℕ) (s : State) (g : Graph) (o : Outcome State) (q : Outcome Graph) → Represents Y s g
+      → (noRoots (length (s .roots)) named ≡ false → Agrees o q) → Agrees (onRoots named s o) (onGraphRoots named g q)
+  roots-agree named s g o q m f =
+      shape-passes s g _ _ m
+      (refuse-agrees (noRoots (length (s .roots)) named) (noRoots (length (g .roots)) named) Why.Root s g o q m
+      (ap (λ n. noRoots n named) (m .count)) f)
 
   -- a value's word is a value of the heap
-  pub rep-value : (s : State) (g : Graph) (m : Represents s g) (v : Value) (w : ℕ) → Rep (m .ids) (m .pl) v w
+  pub rep-value : (s : State) (g : Graph) (m : Represents Y s g) (v : Value) (w : ℕ) → Encodes Y (m .kept) (m .headerOf) v w
       → isValue Y (headers Y s) w ≡ true
   rep-value s g m (plain p) w e = rw (e .1) (plain-value Y (headers Y s) (plainWord p) (plain-no-address p (e .0)))
-  rep-value s g m (object x) w e = rw (e .1) (address-value Y (headers Y s) (m .pl x) (m .head x (e .0)))
+  rep-value s g m (object x) w e = rw (e .1) (address-value Y (headers Y s) (m .headerOf x) (m .head x (e .0)))
 
   pub plain-names-nothing : (s : State) (w : ℕ) → isAddress w ≡ false → names Y s w ≡ false
   unfolding names
   plain-names-nothing s w p = rw p
 
   -- a header of a sound state is named by its address
-  module _ (s : State) (h : Sound Y s) (i : ℕ) (m : In i (headers Y s)) where
+  module _ (s : State) (h : SoundTests Y s) (i : ℕ) (m : In i (headers Y s)) where
     pub header-not-null : isNull (address Y i) ≡ false
     header-not-null =
         let b = first-in s (h .shape) in
@@ -126,3 +112,30 @@ module _ (Y : Layout) where
           t .clear,
           le-leb (i + size Y (s .heap) i) (free s) (t .within),
         )
+
+  -- what is reachable in the graph is kept, and is one of its objects
+  module _ (s : State) (g : Graph) (m : Represents Y s g) where
+    value-kept : (v : Value) (w x : ℕ) → Encodes Y (m .kept) (m .headerOf) v w → v ≡ object x → In x (m .kept)
+    value-kept (plain p) w x e q = absurd (plain-object p x q)
+    value-kept (object y) w x e q = subst (λ z. In z (m .kept)) (object-same y x q) (e .0)
+
+    field-kept : (b : Object) (vs : List Value) (i f x : ℕ) → Holds Y (m .kept) (m .headerOf) (s .heap) b i → b ≡ traced vs
+        → getD vs f (plain null) ≡ object x → In x (m .kept)
+    field-kept b vs i f x h e v =
+        let t = subst (λ z. Holds Y (m .kept) (m .headerOf) (s .heap) z i) e h in
+        ⊎-elim
+        (λ (l : f < length vs). value-kept (getD vs f (plain null)) (at (s .heap) (i + 1 + f)) x (t .2 f l) v)
+        (λ (l : length vs ≤ f). absurd (plain-object null x (sym (List·getD-eq-default vs (plain null) l) ∙ v)))
+        (decide f (length vs))
+
+    reach-kept : (x : ℕ) → D3.Reachable g x → In x (m .kept)
+    reach-kept j (D3.fromRoot r {i} e) =
+        ⊎-elim
+        (λ (l : r < length (g .roots)). value-kept (rootValue g r) (rootWord s r) i (m .roots r l) e)
+        (λ (l : length (g .roots) ≤ r). absurd (plain-object null i (sym (List·getD-eq-default (g .roots) (plain null) l) ∙ e)))
+        (decide r (length (g .roots)))
+    reach-kept k (D3.fromField f {i} {j} vs r e v) =
+        field-kept (nth g i) vs (m .headerOf i) f j (m .holds i (reach-kept i r)) e v
+
+    pub represents-known : (x : ℕ) → D3.Reachable g x → x < length (g .objects)
+    represents-known x r = m .known x (reach-kept x r)

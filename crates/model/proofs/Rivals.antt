@@ -1,42 +1,47 @@
 -- Wrong machines, and the demand that each of them breaks: no demand holds of everything. Assumes nothing.
-use Prim.Native.Nat.{ℕ, zero, suc, _+_}
+use Prim.Native.Nat.{ℕ, zero, suc, _+_, _-_, _≤_, _<_}
 use native.Mathlib.Omega.{arith}
 use mathlib.Core.Path.{_≡_, refl, sym, ap}
 use mathlib.Core.Logic.{inl, inr, ⊎-elim}
-use mathlib.Core.Bool.{false, cond}
+use mathlib.Core.Bool.{Bool, false, cond}
 use mathlib.Core.List.{List, [], _∷_, _++_, map, List·Memᴰ, List·Memᴰ·head, List·Memᴰ·not-nil, List·Memᴰ·cases-cons}
 use mathlib.Core.Option.{Option, none, some}
-use lib.Dec.{ltb}
-use lib.IntN.{pos}
+use lib.Dec.{ltb, eqb}
 use lib.ListN.{getD, replicate}
 use Rattle.model.specs.declared.Half.the-variants.{A}
+use Rattle.model.specs.declared.Kind.the-variants.{Traced}
 use Rattle.model.specs.declared.Call.{Call}
-use Rattle.model.specs.declared.Record.{Record}
 use Rattle.model.specs.declared.Refusal.the-variants as Why
 use Rattle.model.specs.declared.Answer.the-variants as Says
 use Rattle.model.specs.declared.Call.the-variants as Ask
+use Rattle.model.specs.Limits.{maxRoots}
 use Rattle.model.specs.Calls as Calls
 use Rattle.model.specs.Answers.{Outcome, says, refuse}
-use Rattle.model.specs.Calls.{fresh}
+use Rattle.model.specs.Calls.{fresh, freshRecord}
+use Rattle.model.specs.Changes.{fits, placed}
 use Rattle.model.specs.Collection.{cells, wordLeads, cellLeads, orderAt, live, rename, copied}
+use Rattle.model.specs.Conditions.{Sound}
 use Rattle.model.specs.Demand1 as D1
 use Rattle.model.specs.Demand2 as D
 use Rattle.model.specs.Demand3 as D3
 use Rattle.model.specs.Discovery.{mem, visit, visits, packed, wordsBefore, found}
-use Rattle.model.specs.GraphCalls.{graphRefuse, inspected, graphStep, graphAnswers}
+use Rattle.model.specs.Graph.{totalWords, graphOrder, graphLive}
+use Rattle.model.specs.GraphCalls.{inspected, graphStep, graphAnswers, graphAfter}
 use Rattle.model.specs.Headers.{tuple}
 use Rattle.model.specs.Refusals as Row
-use Rattle.model.specs.Sessions.{step, Machine, answers}
+use Rattle.model.specs.Sessions.{step, Machine, answers, after}
 use Rattle.model.specs.Shape.{badShapeOf, badShape}
-use Rattle.model.specs.Soundness.{headersFrom, sound}
-use Rattle.model.specs.Words.{State, lent, halfWords, firstOf, free}
+use Rattle.model.specs.Soundness.{tiles, headersFrom, isValue, fieldsAreValues, sound}
+use Rattle.model.specs.Words.{State, lent, halfWords, firstOf, firstWord, free}
 use Rattle.model.specs.Worked as Worked
+use Rattle.model.proofs.Conditions.{roots-decide}
+use Rattle.model.proofs.Deciding.{shape-decides, sound-decides}
 use Rattle.model.proofs.PlainAnswers.{done-plainly}
-use Rattle.model.proofs.Conditions.{shape-decides, no-roots}
 use Rattle.model.proofs.Shape.{Shaped, unshaped}
+use Rattle.model.proofs.Values.{some-same}
 
 -- a machine that changes what the library's comes to
-abbrev pub changed : (Call → State → Outcome → Outcome) → Machine
+abbrev pub changed : (Call → State → Outcome State → Outcome State) → Machine
 changed f = record { fresh = fresh; step = λ c s. f c s (step tuple c s) }
 
 -- ---- demand 1
@@ -47,7 +52,7 @@ refusesAll = changed (λ c s o. says (Says.Refused Why.Shape) s)
 
 check-refused : (s : State) → badShape s ≡ false → D1.First (Row.rows tuple Ask.Check s) Why.Shape → ⊥
 check-refused s e (inl a) = shape-decides s .fails e (a .0)
-check-refused s e (inr (n, inl a)) = no-roots s (a .0)
+check-refused s e (inr (n, inl a)) = roots-decide s [] .fails refl (a .0)
 check-refused s e (inr (n, inr a)) = a .1
 
 pub refuses-all-breaks-1 : D1.Demand1 tuple refusesAll → ⊥
@@ -79,11 +84,19 @@ sixteen-bits-breaks-1 words v d =
 -- ---- demand 2
 
 -- P5's heap, and one with a root that names a, whose fields name b and c, and b's field d
-abbrev p5 : State
+abbrev pub p5 : State
 p5 = Worked.state A 7 Worked.p5 (24 ∷ 12 ∷ [])
+
+p5-sound : Sound tuple p5
+unfolding tuple sound badShapeOf tiles headersFrom isValue fieldsAreValues mem
+p5-sound = sound-decides tuple p5 .holds refl
 
 abbrev four : State
 four = Worked.state A 9 (0 ∷ 4 ∷ 16 ∷ 24 ∷ 2 ∷ 32 ∷ 2 ∷ 1 ∷ 0 ∷ replicate 8 0) (4 ∷ [])
+
+four-sound : Sound tuple four
+unfolding tuple sound badShapeOf tiles headersFrom isValue fieldsAreValues mem
+four-sound = sound-decides tuple four .holds refl
 
 -- answers a made-up L, one too many, to every collection
 abbrev pub madeUp : Machine
@@ -92,19 +105,22 @@ madeUp = changed (λ c s o. says (Says.Live (live tuple s + 1)) (o .left))
 live-same-number : (n m : ℕ) → Says.Live n ≡ Says.Live m → n ≡ m
 live-same-number n m e = cc
 
-pub made-up-breaks-2 : D.Demand2 tuple madeUp p5 → ⊥
+pub made-up-breaks-2 : D.Demand2 tuple madeUp → ⊥
 unfolding tuple live orderAt found visits visit mem packed wordLeads
 made-up-breaks-2 d =
-    let a : 5 ≡ d .L = live-same-number 5 (d .L) (d .answers) in
-    let b : d .L ≡ 4 = d .leaves .counts in
+    let z = d p5 p5-sound in
+    let a : 5 ≡ z .L = live-same-number 5 (z .L) (z .answers) in
+    let b : z .L ≡ 4 = z .leaves .counts in
     omega arith
 
 -- moves nothing
 abbrev pub movesNothing : Machine
 movesNothing = changed (λ c s o. says (o .answer) s)
 
-pub moves-nothing-breaks-2 : D.Demand2 tuple movesNothing p5 → ⊥
-moves-nothing-breaks-2 d = let z : _≡_ {A = ℕ} 1 2 = ap (λ h. firstOf 1 h) (d .leaves .otherHalf) in omega arith
+pub moves-nothing-breaks-2 : D.Demand2 tuple movesNothing → ⊥
+moves-nothing-breaks-2 d =
+    let z : _≡_ {A = ℕ} 1 2 = ap (λ h. firstOf 1 h) (d p5 p5-sound .leaves .otherHalf) in
+    omega arith
 
 -- goes depth-first: an object's fields before the objects met beside it
 unfoldable pub deep : ℕ → State → List ℕ → List (Option ℕ) → List ℕ
@@ -117,9 +133,11 @@ deep (suc n) s o (some i ∷ ls) =
 abbrev pub depthFirst : Machine
 depthFirst = changed (λ c s o. says (o .answer) (copied tuple (deep 20 s [] (map (wordLeads tuple) (s .roots))) s))
 
-pub depth-first-breaks-2 : D.Demand2 tuple depthFirst four → ⊥
+pub depth-first-breaks-2 : D.Demand2 tuple depthFirst → ⊥
 unfolding tuple deep copied rename headersFrom orderAt found visits visit mem packed wordsBefore wordLeads
-depth-first-breaks-2 d = let z : _≡_ {A = ℕ} 15 16 = ap (λ l. getD l 3 0) (d .leaves .copies) in omega arith
+depth-first-breaks-2 d =
+    let z : _≡_ {A = ℕ} 15 16 = ap (λ l. getD l 3 0) (d four four-sound .leaves .copies) in
+    omega arith
 
 -- ---- demand 3
 
@@ -127,15 +145,24 @@ depth-first-breaks-2 d = let z : _≡_ {A = ℕ} 15 16 = ap (λ l. getD l 3 0) (
 abbrev pub keepsWords : Machine
 keepsWords =
     record {
-      fresh = λ s. says Says.Done (lent (s .heap) (s .roots) (record { half = A; free = record { 0 = 1 } }));
+      fresh = λ s. says Says.Done (lent (s .heap) (s .roots) freshRecord);
       step = step tuple;
     }
 
+-- three words, any record, and n null roots
+abbrev threeWords : (w n : ℕ) → n ≤ maxRoots → D3.Session
+threeWords w n few = record {
+  words = replicate 3 w;
+  half = 1;
+  halves = record { length-is = refl; least = omega arith; most = omega arith };
+  roots = n;
+  few = few;
+  «record» = freshRecord;
+}
+
 pub keeps-words-breaks-3 : D3.Demand3 tuple keepsWords → ⊥
 unfolding answers step Calls.collect refuse sound badShapeOf
-keeps-words-breaks-3 d =
-    d .neverDamaged (7 ∷ 7 ∷ 7 ∷ []) 1 0 (record { half = A; free = record { 0 = 1 } }) (Ask.Collect ∷ [])
-    (record { length-is = refl; least = omega arith; most = omega arith }) (omega arith) (List·Memᴰ·head refl)
+keeps-words-breaks-3 d = d .freshNeverDamaged (threeWords 7 0 (omega arith)) (Ask.Collect ∷ []) (List·Memᴰ·head refl)
 
 -- answers "done" to everything
 abbrev pub constant : Machine
@@ -145,17 +172,43 @@ done-null : Says.Done ≡ Says.Null → ⊥
 done-null e = let z : _≡_ {A = ℕ} 0 1 = cc in omega arith
 
 pub constant-breaks-3 : D3.Demand3 tuple constant → ⊥
-unfolding answers graphAnswers graphStep graphRefuse inspected
+unfolding answers graphAnswers graphStep refuse inspected
 constant-breaks-3 d =
     done-null (ap (λ l. getD l 0 Says.Done)
-    (d .sameAnswers (0 ∷ 0 ∷ 0 ∷ []) (0 ∷ 0 ∷ 0 ∷ []) 1 1 1 1 start start (Ask.Inspect 0 ∷ []) ok ok (omega arith)
-    (omega arith) unrefused .1))
+    (d .freshAnswers (threeWords 0 1 (omega arith)) (threeWords 0 1 (omega arith)) refl (omega arith) (Ask.Inspect 0 ∷ []) 1 unrefused .1))
   where
-    start : Record
-    start = record { half = A; free = record { 0 = 1 } }
-
-    ok : D3.Halves (0 ∷ 0 ∷ 0 ∷ []) 1
-    ok = record { length-is = refl; least = omega arith; most = omega arith }
-
     unrefused : List·Memᴰ D3.noRoom (Says.Done ∷ []) → ⊥
     unrefused m = ⊎-elim (λ (e : D3.noRoom ≡ Says.Done). done-plainly Why.Room (sym e)) (λ x. List·Memᴰ·not-nil x) (List·Memᴰ·cases-cons m)
+
+-- collects once, from half A, and pretends later: in half B it says that all words used are live, and an allocation that does not
+-- fit is "no room"
+abbrev inB : State → Bool
+inB s = eqb (firstOf 1 (s .«record» .half)) 2
+
+unfoldable pub pretends : Call → State → Outcome State → Outcome State
+pretends Ask.Collect s o = says (Says.Live (free s - firstWord s)) s
+pretends (Ask.Allocate k n r) s o = cond (fits n s) o (says (Says.Refused Why.Room) s)
+pretends Ask.Check s o = o
+pretends (Ask.SetInteger r v) s o = o
+pretends (Ask.SetNull r) s o = o
+pretends (Ask.Copy from to) s o = o
+pretends (Ask.Load r f to) s o = o
+pretends (Ask.Store r f from) s o = o
+pretends (Ask.RawRead r f) s o = o
+pretends (Ask.RawWrite r f x) s o = o
+pretends (Ask.Same r q) s o = o
+pretends (Ask.Inspect r) s o = o
+
+abbrev pub onlyOnce : Machine
+onlyOnce = changed (λ c s o. cond (inB s) (pretends c s o) o)
+
+pub only-once-breaks-3 : D3.Demand3 tuple onlyOnce → ⊥
+unfolding pretends step fresh answers after graphStep graphAfter D3.carriedOut graphLive graphOrder totalWords refuse inspected
+    Calls.collect Calls.allocate Calls.setNull tuple sound badShapeOf tiles headersFrom isValue fieldsAreValues mem visit visits packed
+    wordsBefore found wordLeads orderAt live rename copied placed
+only-once-breaks-3 d =
+    let calls = Ask.Allocate Traced 0 0 ∷ Ask.Collect ∷ Ask.SetNull 0 ∷ [] in
+    let x = d .freshRoom (threeWords 0 1 (omega arith)) calls (Ask.Allocate Traced 0 0) .0 refl in
+    let w : 1 ≡ x .words = some-same 1 (x .words) (x .needs) in
+    let e : 1 < 0 + x .words = x .exceed in
+    omega arith

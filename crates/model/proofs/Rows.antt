@@ -1,7 +1,6 @@
 -- The first row that applies is one at most, and none applies exactly when there is no first. Assumes nothing.
 use mathlib.Core.Path.{_≡_, sym, _∙_, subst}
 use mathlib.Core.Logic.{inl, inr}
-use mathlib.Core.Bool.{Bool, true, false}
 use mathlib.Core.List.{List, [], _∷_}
 use mathlib.Core.Option.{none}
 use Rattle.model.specs.declared.Refusal.{Refusal}
@@ -35,8 +34,3 @@ settled-refuses qs Answers one (passed n p) = record {
   exactly = λ j. (λ b. absurd (p j b), λ g. absurd (first-some qs j g n));
   none = (λ x. n, λ x. p);
 }
-
--- a test and the condition that it decides
-pub record Decides (b : Bool) (P : Type 0) : Type 0 where
-  pub holds : b ≡ true → P
-  pub fails : b ≡ false → P → ⊥

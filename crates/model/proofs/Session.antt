@@ -18,7 +18,7 @@ use Rattle.model.specs.Answers.{number}
 use Rattle.model.specs.Demand3 as D3
 use Rattle.model.specs.Graph.{Object, Graph}
 use Rattle.model.specs.GraphCalls.{graphStep, graphAnswers, graphAfter}
-use Rattle.model.specs.Headers.{Layout, Lawful}
+use Rattle.model.specs.Headers.{Layout, WritesBoth}
 use Rattle.model.specs.Objects.{kind}
 use Rattle.model.specs.Sessions.{step, machine, answers, after}
 use Rattle.model.specs.Words.{State, halfWords}
@@ -29,9 +29,10 @@ use Rattle.model.proofs.CallsOnFields.{load-agrees, store-agrees, rawRe
 use Rattle.model.proofs.GraphAnswers.{graph-refuses, graph-room}
 use Rattle.model.proofs.GraphLeaving.{ofGraph}
 use Rattle.model.proofs.Lengths.{step-lengths}
-use Rattle.model.proofs.Represents.{Represents, Agrees}
+use Rattle.model.specs.Represents.{Represents}
+use Rattle.model.proofs.Represents.{parts, Agrees}
 use Rattle.model.proofs.CallsOnRoots.{check-agrees, setInteger-agrees, setNull-agrees, copy-agrees, same-agrees, inspect-agrees}
-use Rattle.model.proofs.Soundness.{Sound}
+use Rattle.model.proofs.Soundness.{SoundTests}
 use Rattle.model.proofs.Tests.{by-test, never}
 
 cons-same : {A : Type 0} {a b : A} {xs ys : List A} → a ≡ b → xs ≡ ys → a ∷ xs ≡ b ∷ ys
@@ -63,7 +64,7 @@ is-no-room (Says.Object Untraced n) e = never e refl
 is-no-room (Says.Number w) e = never e refl
 is-no-room (Says.Refused k) e = ap Says.Refused (refusal-room k e)
 
-module _ (Y : Layout) (law : Lawful Y) where
+module _ (Y : Layout) (law : WritesBoth Y) where
   -- every call: "no room", or heap and graph agree
   pub step-goes : (c : Call) (s : State) (g : Graph) → Represents Y s g → Full Y c s g (step Y c s) ⊎ Agrees Y (step Y c s) (graphStep c g)
   step-goes Ask.Collect s g m = inr (collect-agrees Y s g m)
@@ -90,10 +91,10 @@ module _ (Y : Layout) (law : Lawful Y) where
   room-smaller c s s⁺ g m m⁺ l e =
       ⊎-elim
       (λ (u : Full Y c s⁺ g (step Y c s⁺)).
-      let a = allocate-room Y (u .kind) (u .fields) (u .to) s⁺ (m⁺ .ok) (u .named) (u .small) .0
+      let a = allocate-room Y (u .kind) (u .fields) (u .to) s⁺ (parts m⁺) (u .named) (u .small) .0
       (ap (λ z. step Y z s⁺ .answer) (sym (u .is)) ∙ e) in
       ap (λ z. step Y z s .answer) (u .is)
-      ∙ allocate-room Y (u .kind) (u .fields) (u .to) s (m .ok) (omega (arith, u .named, m .count, m⁺ .count)) (u .small) .1
+      ∙ allocate-room Y (u .kind) (u .fields) (u .to) s (parts m) (omega (arith, u .named, m .count, m⁺ .count)) (u .small) .1
       (omega (arith, live-same Y s g m, live-same Y s⁺ g m⁺)))
       (λ (a : Agrees Y (step Y c s⁺) (graphStep c g)). absurd (graph-room c g (sym (a .0) ∙ e)))
       (step-goes c s⁺ g m⁺)

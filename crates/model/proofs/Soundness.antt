@@ -43,7 +43,7 @@ at-zeros H i e l m f =
 
 module _ (Y : Layout) where
   -- what `sound` says, each part by name
-  pub record Sound (s : State) : Type 0 where
+  pub record SoundTests (s : State) : Type 0 where
     pub shape : Shaped s
     pub null : at (s .heap) 0 ≡ 0
     pub idle : (i : ℕ) → otherFirst s ≤ i → i < otherFirst s + halfWords (s .heap) → at (s .heap) i ≡ 0
@@ -53,7 +53,7 @@ module _ (Y : Layout) where
     pub values : (i f : ℕ) → In i (headers Y s) → kind Y (s .heap) i ≡ Traced → f < fieldCount Y (s .heap) i
         → isValue Y (headers Y s) (at (s .heap) (i + 1 + f)) ≡ true
 
-  pub sound-parts : (s : State) → sound Y s ≡ true → Sound s
+  pub sound-parts : (s : State) → sound Y s ≡ true → SoundTests s
   unfolding sound fieldsAreValues
   sound-parts s h =
       let H = s .heap in
@@ -82,7 +82,7 @@ module _ (Y : Layout) where
             rw (field-at Y H i f l) at (all-at (isValue Y hs) (fieldWords Y H i) 0 f v (omega arith));
       }
 
-  pub sound-whole : (s : State) → Sound s → sound Y s ≡ true
+  pub sound-whole : (s : State) → SoundTests s → sound Y s ≡ true
   unfolding sound fieldsAreValues
   sound-whole s h =
       let H = s .heap in
@@ -110,7 +110,7 @@ module _ (Y : Layout) where
       )
 
   -- all words outside the used part are 0
-  pub sound-zero : (s : State) → Sound s → (i : ℕ) → (i < firstWord s) ⊎ (free s ≤ i) → at (s .heap) i ≡ 0
+  pub sound-zero : (s : State) → SoundTests s → (i : ℕ) → (i < firstWord s) ⊎ (free s ≤ i) → at (s .heap) i ≡ 0
   sound-zero s h i c =
       ⊎-elim
       (λ (l : i < length (s .heap)).

@@ -19,7 +19,7 @@ use Rattle.model.proofs.Lists.{getD-map}
 use Rattle.model.proofs.Members.{In, Out, in-nil, in-other, out-cons}
 use Rattle.model.proofs.Order.{free-in}
 use Rattle.model.proofs.Shape.{first-in}
-use Rattle.model.proofs.Soundness.{Sound}
+use Rattle.model.proofs.Soundness.{SoundTests}
 use Rattle.model.proofs.Tests.{same?}
 use Rattle.model.proofs.Tiling.{headers-tile}
 
@@ -53,7 +53,7 @@ module _ (Y : Layout) where
       getD-set-other (marked Y H o b js) i j (Y .mark (address Y (b + wordsBefore (cells Y H) o i))) 0 (p .0) ∙ marked-out H o b js j (p .1)
 
 -- the order names headers of a sound state, whose objects fit in a half
-module _ (Y : Layout) (s : State) (h : Sound Y s) (o : List ℕ) (heads : (i : ℕ) → In i o → In i (headers Y s))
+module _ (Y : Layout) (s : State) (h : SoundTests Y s) (o : List ℕ) (heads : (i : ℕ) → In i o → In i (headers Y s))
     (fit : length (packed (cells Y (s .heap)) o) ≤ halfWords (s .heap)) (p : ℕ) where
   abbrev S : ℕ
   S = halfWords (s .heap)

@@ -14,9 +14,9 @@ use Rattle.model.specs.Headers.{Layout}
 use Rattle.model.specs.Objects.{size}
 use Rattle.model.specs.Soundness.{tiles, headersFrom}
 use Rattle.model.specs.Words.{at}
-use Rattle.model.proofs.Members.{In, in-nil, in-cons}
+use Rattle.model.proofs.Members.{In, in-nil, in-tail, in-self, in-cons}
 use Rattle.model.proofs.Objects.{cells-length}
-use Rattle.model.proofs.Tests.{by-test, or-cases, and-both}
+use Rattle.model.proofs.Tests.{by-test, decide, or-cases, and-both}
 
 module _ (Y : Layout) where
   -- where the tiling starts before its end, it has a header there and goes on behind the object
@@ -112,6 +112,23 @@ module _ (Y : Layout) where
       (in-cons j i rest (rw m at a)))
       (λ (q : ltb i e ≡ false). in-nil j (rw (headers-end H e n i q) at a))
       (by-test (ltb i e))
+
+  -- every word of the tiled part is one of some object
+  pub headers-cover : (H : List ℕ) (e n i j : ℕ) → tiles Y H e n i ≡ true → i ≤ j → j < e
+      → (k : ℕ) × In k (headersFrom Y H e n i) × (k ≤ j) × (j < k + size Y H k)
+  unfolding headersFrom tiles
+  headers-cover H e zero i j t l u = absurd (let q = eqb-true i e t in omega arith)
+  headers-cover H e (suc n) i j t l u =
+      let b : ltb i e ≡ true = lt-ltb i e (omega arith) in
+      let a = tiles-step H e n i t (omega arith) in
+      let rest = headersFrom Y H e n (i + size Y H i) in
+      rw (headers-more H e n i b)
+      (⊎-elim
+      (λ (d : j < i + size Y H i). (i, in-self i rest, l, d))
+      (λ (d : i + size Y H i ≤ j).
+      let c = headers-cover H e n (i + size Y H i) j (a .1) d u in
+      (c .0, in-tail (c .0) i rest (c .1), c .2, c .3))
+      (decide j (i + size Y H i)))
 
   -- the objects' words are the words of the tiled part
   pub headers-words : (H : List ℕ) (e n i : ℕ) → e ≤ length H → tiles Y H e n i ≡ true

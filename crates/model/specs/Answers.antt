@@ -12,20 +12,20 @@ use Rattle.model.specs.declared.Answered.{Answered}
 use Rattle.model.specs.declared.Told.{Told}
 use Rattle.model.specs.Words.{State, lent}
 
--- a call's answer, and what it leaves of what it was lent
-pub record Outcome : Type 0 where
+-- a call's answer, and what it leaves of what it was made on: of a state, or of an object graph
+pub record Outcome (L : Type 0) : Type 0 where
   pub answer : Answer
-  pub left : State
+  pub left : L
 
-abbrev pub says : Answer → State → Outcome
+abbrev pub says : {L : Type 0} → Answer → L → Outcome L
 says a s = record { answer = a; left = s }
 
 -- the outcome of a by-value call, from what it returned and the words that it left: a promise is one equation of this
-abbrev pub outcome : Answered → List ℕ → List ℕ → Outcome
+abbrev pub outcome : Answered → List ℕ → List ℕ → Outcome State
 outcome a H R = says (a .answer) (lent H R (a .«record»))
 
 -- refused where the test holds, and nothing changes; otherwise what follows
-unfoldable pub refuse : Bool → Refusal → State → Outcome → Outcome
+unfoldable pub refuse : {L : Type 0} → Bool → Refusal → L → Outcome L → Outcome L
 refuse b k s next = cond b (says (Says.Refused k) s) next
 
 -- the number of a refusal

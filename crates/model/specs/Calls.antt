@@ -1,95 +1,94 @@
 -- The calls, each with its refusals in their order. Document 01, "The calls" and "Refusals and their order".
--- The session of them is in Sessions, the window in Window.
+-- SHAPE and ROOT come first in each but fresh, by `onRoots` of Admission. The session of the calls is in Sessions, the window
+-- in Window.
 use Prim.Native.Nat.{ℕ}
-use mathlib.Core.Bool.{Bool, not, cond, _||_}
+use mathlib.Core.Bool.{Bool, not, cond}
+use mathlib.Core.List.{[], _∷_}
 use lib.Dec.{ltb, leb, eqb}
 use lib.ListN.{length, replicate}
 use lib.IntN.{ℤ}
 use Rattle.model.specs.declared.Half.the-variants.{A}
+use Rattle.model.specs.declared.Record.{Record}
 use Rattle.model.specs.declared.Kind.{Kind}
 use Rattle.model.specs.declared.Kind.the-variants.{Traced, Untraced}
 use Rattle.model.specs.declared.Refusal.the-variants as Why
 use Rattle.model.specs.declared.Answer.the-variants as Says
 use Rattle.model.specs.Limits.{maxFields}
-use Rattle.model.specs.Words.{State, at}
+use Rattle.model.specs.Words.{State, withHeap, withRecord, at}
 use Rattle.model.specs.Values.{isOdd, isNull, inRange, tag, untag}
 use Rattle.model.specs.Headers.{Layout}
-use Rattle.model.specs.Shape.{badLength, badShape}
+use Rattle.model.specs.Shape.{badLength}
 use Rattle.model.specs.Objects.{isTraced, index, kind, fieldCount, fieldIndex, names}
 use Rattle.model.specs.Soundness.{sound}
 use Rattle.model.specs.Collection.{live, collected}
 use Rattle.model.specs.Answers.{Outcome, says, refuse}
-use Rattle.model.specs.Changes.{noRoot, rootWord, withRoot, withWord, fits, placed}
+use Rattle.model.specs.Admission.{onRoots}
+use Rattle.model.specs.Changes.{rootWord, withRoot, withWord, fits, placed}
+
+-- half A, free index 1
+abbrev pub freshRecord : Record
+freshRecord = record { half = A; free = record { 0 = 1 } }
 
 -- clears all heap words; half A, free index 1. It gives only the heap-length part of SHAPE, and does not look at the roots.
-unfoldable pub fresh : State → Outcome
+unfoldable pub fresh : State → Outcome State
 fresh s =
     refuse (badLength (length (s .heap))) Why.Shape s
-    (says Says.Done (record {
-      heap = replicate (length (s .heap)) 0;
-      roots = s .roots;
-      «record» = record { half = A; free = record { 0 = 1 } };
-    }))
+    (says Says.Done (withRecord freshRecord (withHeap (replicate (length (s .heap)) 0) s)))
 
 -- set, copy and same look at no heap word
 
-unfoldable pub setInteger : ℕ → ℤ → State → Outcome
+unfoldable pub setInteger : ℕ → ℤ → State → Outcome State
 setInteger r v s =
-    refuse (badShape s) Why.Shape s
-    (refuse (noRoot s r) Why.Root s
+    onRoots (r ∷ []) s
     (refuse (not (inRange v)) Why.Range s
-    (says Says.Done (withRoot s r (tag v)))))
+    (says Says.Done (withRoot s r (tag v))))
 
-unfoldable pub setNull : ℕ → State → Outcome
+unfoldable pub setNull : ℕ → State → Outcome State
 setNull r s =
-    refuse (badShape s) Why.Shape s
-    (refuse (noRoot s r) Why.Root s
-    (says Says.Done (withRoot s r 0)))
+    onRoots (r ∷ []) s
+    (says Says.Done (withRoot s r 0))
 
-unfoldable pub copy : ℕ → ℕ → State → Outcome
+unfoldable pub copy : ℕ → ℕ → State → Outcome State
 copy from to s =
-    refuse (badShape s) Why.Shape s
-    (refuse (noRoot s from || noRoot s to) Why.Root s
-    (says Says.Done (withRoot s to (rootWord s from))))
+    onRoots (from ∷ to ∷ []) s
+    (says Says.Done (withRoot s to (rootWord s from)))
 
-unfoldable pub same : ℕ → ℕ → State → Outcome
+unfoldable pub same : ℕ → ℕ → State → Outcome State
 same r q s =
-    refuse (badShape s) Why.Shape s
-    (refuse (noRoot s r || noRoot s q) Why.Root s
-    (says (cond (eqb (rootWord s r) (rootWord s q)) Says.Yes Says.No) s))
+    onRoots (r ∷ q ∷ []) s
+    (says (cond (eqb (rootWord s r) (rootWord s q)) Says.Yes Says.No) s)
 
 abbrev pub isOfKind : Kind → Kind → Bool
 isOfKind Traced k = isTraced k
 isOfKind Untraced k = not (isTraced k)
 
 module _ (Y : Layout) where
-  unfoldable pub check : State → Outcome
+  unfoldable pub check : State → Outcome State
   check s =
-      refuse (badShape s) Why.Shape s
+      onRoots [] s
       (says (cond (sound Y s) Says.Sound Says.Unsound) s)
 
-  unfoldable pub collect : State → Outcome
+  unfoldable pub collect : State → Outcome State
   collect s =
-      refuse (badShape s) Why.Shape s
+      onRoots [] s
       (refuse (not (sound Y s)) Why.Damaged s
       (says (Says.Live (live Y s)) (collected Y s)))
 
   -- n fields into root r: if n + 1 words fit, they are placed; if not, it collects first and tries again
-  unfoldable pub allocate : Kind → ℕ → ℕ → State → Outcome
+  unfoldable pub allocate : Kind → ℕ → ℕ → State → Outcome State
   allocate k n r s =
       let now = placed Y k n r s in
       let s′ = collected Y s in
       let then = placed Y k n r s′ in
-      refuse (badShape s) Why.Shape s
-      (refuse (noRoot s r) Why.Root s
+      onRoots (r ∷ []) s
       (refuse (ltb maxFields n) Why.Count s
       (cond (fits n s) (says Says.Done now)
       (refuse (not (sound Y s)) Why.Damaged s
       (refuse (not (fits n s′)) Why.Room s′
-      (says Says.Done then))))))
+      (says Says.Done then)))))
 
   -- OBJECT, KIND and FIELD in order: the word w names an object of kind k that has a field f
-  abbrev pub onField : Kind → ℕ → ℕ → State → Outcome → Outcome
+  abbrev pub onField : Kind → ℕ → ℕ → State → Outcome State → Outcome State
   onField k w f s next =
       refuse (not (names Y s w)) Why.Object s
       (refuse (not (isOfKind k (kind Y (s .heap) (index Y w)))) Why.Kind s
@@ -97,41 +96,36 @@ module _ (Y : Layout) where
       next))
 
   -- field f of the object that root r names, into root to
-  unfoldable pub load : ℕ → ℕ → ℕ → State → Outcome
+  unfoldable pub load : ℕ → ℕ → ℕ → State → Outcome State
   load r f to s =
-      refuse (badShape s) Why.Shape s
-      (refuse (noRoot s r || noRoot s to) Why.Root s
+      onRoots (r ∷ to ∷ []) s
       (onField Traced (rootWord s r) f s
-      (says Says.Done (withRoot s to (at (s .heap) (fieldIndex (index Y (rootWord s r)) f))))))
+      (says Says.Done (withRoot s to (at (s .heap) (fieldIndex (index Y (rootWord s r)) f)))))
 
   -- root from's word into field f of the object that root r names
-  unfoldable pub store : ℕ → ℕ → ℕ → State → Outcome
+  unfoldable pub store : ℕ → ℕ → ℕ → State → Outcome State
   store r f from s =
-      refuse (badShape s) Why.Shape s
-      (refuse (noRoot s r || noRoot s from) Why.Root s
+      onRoots (r ∷ from ∷ []) s
       (onField Traced (rootWord s r) f s
-      (says Says.Done (withWord s (fieldIndex (index Y (rootWord s r)) f) (rootWord s from)))))
+      (says Says.Done (withWord s (fieldIndex (index Y (rootWord s r)) f) (rootWord s from))))
 
-  unfoldable pub rawRead : ℕ → ℕ → State → Outcome
+  unfoldable pub rawRead : ℕ → ℕ → State → Outcome State
   rawRead r f s =
-      refuse (badShape s) Why.Shape s
-      (refuse (noRoot s r) Why.Root s
+      onRoots (r ∷ []) s
       (onField Untraced (rootWord s r) f s
-      (says (Says.Number (at (s .heap) (fieldIndex (index Y (rootWord s r)) f))) s)))
+      (says (Says.Number (at (s .heap) (fieldIndex (index Y (rootWord s r)) f))) s))
 
-  unfoldable pub rawWrite : ℕ → ℕ → ℕ → State → Outcome
+  unfoldable pub rawWrite : ℕ → ℕ → ℕ → State → Outcome State
   rawWrite r f x s =
-      refuse (badShape s) Why.Shape s
-      (refuse (noRoot s r) Why.Root s
+      onRoots (r ∷ []) s
       (onField Untraced (rootWord s r) f s
-      (says Says.Done (withWord s (fieldIndex (index Y (rootWord s r)) f) x))))
+      (says Says.Done (withWord s (fieldIndex (index Y (rootWord s r)) f) x)))
 
-  unfoldable pub inspect : ℕ → State → Outcome
+  unfoldable pub inspect : ℕ → State → Outcome State
   inspect r s =
       let w = rootWord s r in
-      refuse (badShape s) Why.Shape s
-      (refuse (noRoot s r) Why.Root s
+      onRoots (r ∷ []) s
       (cond (isOdd w) (says (Says.Integer (untag w)) s)
       (cond (isNull w) (says Says.Null s)
       (refuse (not (names Y s w)) Why.Object s
-      (says (Says.Object (kind Y (s .heap) (index Y w)) (fieldCount Y (s .heap) (index Y w))) s)))))
+      (says (Says.Object (kind Y (s .heap) (index Y w)) (fieldCount Y (s .heap) (index Y w))) s))))

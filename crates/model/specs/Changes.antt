@@ -6,7 +6,7 @@ use lib.Dec.{leb}
 use lib.ListN.{length, set, replicate}
 use lib.Seq.{sets}
 use Rattle.model.specs.declared.Kind.{Kind}
-use Rattle.model.specs.Words.{State, at, halfWords, firstWord, free}
+use Rattle.model.specs.Words.{State, withHeap, withRoots, withFree, at, halfWords, firstWord, free}
 use Rattle.model.specs.Headers.{Layout}
 use Rattle.model.specs.Objects.{address}
 
@@ -18,10 +18,10 @@ abbrev pub rootWord : State → ℕ → ℕ
 rootWord s r = at (s .roots) r
 
 abbrev pub withRoot : State → ℕ → ℕ → State
-withRoot s r w = record { heap = s .heap; roots = set (s .roots) r w; «record» = s .«record» }
+withRoot s r w = withRoots (set (s .roots) r w) s
 
 abbrev pub withWord : State → ℕ → ℕ → State
-withWord s i w = record { heap = set (s .heap) i w; roots = s .roots; «record» = s .«record» }
+withWord s i w = withHeap (set (s .heap) i w) s
 
 -- the words that are free in the current half
 abbrev pub spare : State → ℕ
@@ -33,8 +33,7 @@ fits n s = leb (n + 1) (spare s)
 
 -- a header and n zeros at the free index, and root r gets the address
 unfoldable pub placed : Layout → Kind → ℕ → ℕ → State → State
-placed Y k n r s = record {
-  heap = sets (s .heap) (free s) (Y .header k n ∷ replicate n 0);
-  roots = set (s .roots) r (address Y (free s));
-  «record» = record { half = s .«record» .half; free = record { 0 = free s + (n + 1) } };
-}
+placed Y k n r s =
+    withFree (s .«record» .half) (free s + (n + 1))
+    (withRoots (set (s .roots) r (address Y (free s)))
+    (withHeap (sets (s .heap) (free s) (Y .header k n ∷ replicate n 0)) s))

@@ -9,7 +9,7 @@ use Rattle.model.specs.declared.Half.{Half}
 use Rattle.model.specs.declared.Half.the-variants.{A, B}
 use Rattle.model.specs.declared.Kind.{Kind}
 use Rattle.model.specs.declared.Kind.the-variants.{Traced, Untraced}
-use Rattle.model.specs.Words.{State, at, halfWords, other, otherFirst}
+use Rattle.model.specs.Words.{State, withHeap, withRoots, withFree, at, halfWords, other, otherFirst}
 use Rattle.model.specs.Values.{isAddress}
 use Rattle.model.specs.Headers.{Layout}
 use Rattle.model.specs.Objects.{address, index, kind, fieldWords}
@@ -74,11 +74,9 @@ module _ (Y : Layout) where
       let S = halfWords H in
       let b = otherFirst s in
       let ws = map (settle H o b) (packed (cells H) o) in
-      record {
-        heap = build (other (s .«record» .half)) (filled S ws) (replicate S 0);
-        roots = map (rename H o b) (s .roots);
-        «record» = record { half = other (s .«record» .half); free = record { 0 = b + length ws } };
-      }
+      withFree (other (s .«record» .half)) (b + length ws)
+      (withRoots (map (rename H o b) (s .roots))
+      (withHeap (build (other (s .«record» .half)) (filled S ws) (replicate S 0)) s))
 
   abbrev pub collected : State → State
   collected s = copied (order s) s

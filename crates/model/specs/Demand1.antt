@@ -1,7 +1,7 @@
 -- Demand 1: every public call answers on any words, roots and record; bad input gets the numbered refusal of document 01, in its
 -- order; a refused call changes nothing, and only ROOM leaves the heap collected. The conditions are in Refusals.
 -- That every call answers and ends is no statement here: the definitions are functions, and the code is proved to return.
-use Prim.Native.Nat.{ℕ, _<_}
+use Prim.Native.Nat.{ℕ, _+_, _≤_}
 use mathlib.Core.Path.{_≡_}
 use mathlib.Core.Logic.{_⊎_, _↔_}
 use mathlib.Core.List.{List, [], _∷_}
@@ -13,10 +13,10 @@ use Rattle.model.specs.declared.Place.the-variants as Place
 use Rattle.model.specs.Words.{State}
 use Rattle.model.specs.Headers.{Layout}
 use Rattle.model.specs.Collection.{collected}
-use Rattle.model.specs.Answers.{Outcome, number}
+use Rattle.model.specs.Answers.{Outcome}
 use Rattle.model.specs.Window.{window}
 use Rattle.model.specs.Sessions.{Machine}
-use Rattle.model.specs.Refusals.{Row, freshRows, rows, windowRows}
+use Rattle.model.specs.Refusals.{Row, rank, freshRows, rows, windowRows}
 
 -- k is the refusal of the first row that applies
 abbrev pub First : List Row → Refusal → Type 0
@@ -27,17 +27,17 @@ abbrev pub None : List Row → Type 0
 None [] = Unit {0}
 None (q ∷ qs) = (q .applies → ⊥) × None qs
 
--- the paper's numbers rise along the rows, so that the first that applies is the lowest
+-- the ranks rise along the rows, from n on, so that the first that applies is the one of the lowest rank
 abbrev pub RisingFrom : ℕ → List Row → Type 0
 RisingFrom n [] = Unit {0}
-RisingFrom n (q ∷ qs) = (n < number (q .refusal)) × RisingFrom (number (q .refusal)) qs
+RisingFrom n (q ∷ qs) = (n ≤ rank (q .refusal)) × RisingFrom (rank (q .refusal) + 1) qs
 
 -- what is answered, by whether it is the refusal k: the refusal of the first row that applies, and none exactly when none does
 pub record Refuses (qs : List Row) (Answers : Refusal → Type 0) : Type 0 where
   pub exactly : (k : Refusal) → Answers k ↔ First qs k
   pub none : ((k : Refusal) → Answers k → ⊥) ↔ None qs
 
-abbrev pub Refused : Outcome → Refusal → Type 0
+abbrev pub Refused : Outcome State → Refusal → Type 0
 Refused o k = o .answer ≡ Says.Refused k
 
 pub record Demand1 (Y : Layout) (M : Machine) : Type 0 where
@@ -45,7 +45,9 @@ pub record Demand1 (Y : Layout) (M : Machine) : Type 0 where
   pub session : (c : Call) (s : State) → Refuses (rows Y c s) (Refused (M .step c s))
   pub fresh : (s : State) → Refuses (freshRows s) (Refused (M .fresh s))
   pub opened : (r : ℕ) (s : State) → Refuses (windowRows Y r s) (λ k. window Y r s ≡ Place.Refused k)
-  pub lowest : (c : Call) (s : State) → RisingFrom 0 (rows Y c s)
+  -- in the order of their ranks
+  pub inOrder : (c : Call) (s : State) → RisingFrom 0 (rows Y c s)
+  pub inOrderOpened : (r : ℕ) (s : State) → RisingFrom 0 (windowRows Y r s)
   -- what a refused call leaves
   pub keeps : (c : Call) (s : State) (k : Refusal) → Refused (M .step c s) k → (k ≡ Why.Room → ⊥) → M .step c s .left ≡ s
   pub freshKeeps : (s : State) (k : Refusal) → Refused (M .fresh s) k → M .fresh s .left ≡ s

@@ -14,10 +14,11 @@ use Rattle.model.specs.Values.{isAddress}
 use Rattle.model.specs.Headers.{Layout}
 use Rattle.model.specs.Objects.{address, index, kind, fieldCount, size, fieldIndex}
 use Rattle.model.specs.Discovery.{visits, packed, wordsBefore}
-use Rattle.model.specs.Soundness.{headers, sound}
+use Rattle.model.specs.Soundness.{headers}
 use Rattle.model.specs.Collection.{cells, wordLeads, cellLeads, order}
 use Rattle.model.specs.Changes.{rootWord}
 use Rattle.model.specs.Sessions.{Machine}
+use Rattle.model.specs.Conditions.{Sound}
 
 -- no number twice: two places that hold the same are one
 abbrev pub EachOnce : List ℕ → Type 0
@@ -88,10 +89,18 @@ module _ (Y : Layout) where
     pub counts : L ≡ sizes (s .heap) (order Y s)
     pub used : free s′ ≡ firstWord s′ + L
     -- and it can be collected again
-    pub again : sound Y s′ ≡ true
+    pub again : Sound Y s′
 
   -- of the call: its answer is L, and it leaves that
-  pub record Demand2 (M : Machine) (s : State) : Type 0 where
+  pub record CollectsBy (M : Machine) (s : State) : Type 0 where
     pub L : ℕ
     pub answers : M .step Ask.Collect s .answer ≡ Says.Live L
     pub leaves : Collects s (M .step Ask.Collect s .left) L
+
+  -- for every sound state
+  abbrev pub Demand2 : Machine → Type 0
+  Demand2 M = (s : State) → Sound Y s → CollectsBy M s
+
+  -- and this leaves no choice: what meets it is one state and one number
+  abbrev pub NoChoice : Type 0
+  NoChoice = (s t t′ : State) (L L′ : ℕ) → Collects s t L → Collects s t′ L′ → (t ≡ t′) × (L ≡ L′)

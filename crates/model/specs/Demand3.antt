@@ -1,30 +1,34 @@
 -- Demand 3: one list of session calls gives the same answers at two heap sizes until the smaller answers "no room", and these are
 -- the answers of an object graph with unlimited room; "no room" exactly when live words plus needed words exceed the half.
+-- It is said of any two sound states that stand for one graph, and of heaps that begin with fresh.
 use Prim.Native.Nat.{ℕ, _+_, _*_, _≤_, _<_}
 use mathlib.Core.Path.{_≡_}
 use mathlib.Core.Logic.{_↔_}
-use mathlib.Core.Bool.{Bool, true, cond}
+use mathlib.Core.Bool.{Bool, cond}
 use mathlib.Core.List.{List, [], _∷_, List·Memᴰ}
+use mathlib.Core.Option.{Option, none, some}
 use lib.Dec.{eqb}
 use lib.ListN.{length, getD, take, replicate}
 use Rattle.model.specs.declared.Record.{Record}
-use Rattle.model.specs.declared.Kind.{Kind}
+use Rattle.model.specs.declared.Refusal.{Refusal}
 use Rattle.model.specs.declared.Refusal.the-variants as Why
 use Rattle.model.specs.declared.Answer.{Answer}
 use Rattle.model.specs.declared.Answer.the-variants as Says
 use Rattle.model.specs.declared.Call.{Call}
 use Rattle.model.specs.declared.Call.the-variants as Ask
-use Rattle.model.specs.Limits.{maxHalf, maxRoots, maxFields}
-use Rattle.model.specs.Words.{State, lent}
+use Rattle.model.specs.Limits.{maxHalf, maxRoots}
+use Rattle.model.specs.Words.{State, lent, at, halfWords}
 use Rattle.model.specs.Headers.{Layout}
-use Rattle.model.specs.Soundness.{sound}
 use Rattle.model.specs.Answers.{number, told}
+use Rattle.model.specs.Changes.{rootWord}
+use Rattle.model.specs.Conditions.{Sound}
 use Rattle.model.specs.Sessions.{Machine, answers, after}
 use Rattle.model.specs.Graph.{Value, plain, null, object, Object, traced, untraced, Graph, emptyGraph, nth, rootValue, graphLive}
-use Rattle.model.specs.GraphCalls.{graphAnswers, graphAfter}
+use Rattle.model.specs.GraphCalls.{graphStep, graphAnswers, graphAfter}
+use Rattle.model.specs.Represents.{Represents}
 use Rattle.model.specs.Demand2.{EachOnce}
 
--- ---- a session
+-- ---- a session that begins with fresh
 
 -- any words of a legal length: halves of S words
 pub record Halves (words : List ℕ) (S : ℕ) : Type 0 where
@@ -32,12 +36,20 @@ pub record Halves (words : List ℕ) (S : ℕ) : Type 0 where
   pub least : 1 ≤ S
   pub most : S ≤ maxHalf
 
--- they are lent with n null roots and any record, and made fresh
-abbrev pub lentNull : List ℕ → ℕ → Record → State
-lentNull words n q = lent words (replicate n 0) q
+-- such words, any record, and a legal number of null roots
+pub record Session : Type 0 where
+  pub words : List ℕ
+  pub half : ℕ
+  pub halves : Halves words half
+  pub roots : ℕ
+  pub few : roots ≤ maxRoots
+  pub «record» : Record
 
-abbrev pub begun : Machine → List ℕ → ℕ → Record → State
-begun M words n q = M .fresh (lentNull words n q) .left
+-- they are lent and made fresh
+abbrev pub begun : Machine → Session → State
+begun M e = M .fresh (lent (e .words) (replicate (e .roots) 0) (e .«record»)) .left
+
+-- ---- "no room"
 
 abbrev pub noRoom : Answer
 noRoom = Says.Refused Why.Room
@@ -52,6 +64,28 @@ carriedOut M (c ∷ cs) s =
     let o = M .step c s in
     let rest = carriedOut M cs (o .left) in
     cond (isNoRoom (o .answer)) rest (c ∷ rest)
+
+-- the words that a call needs, of those that need any
+abbrev pub needed : Call → Option ℕ
+needed (Ask.Allocate k n r) = some (n + 1)
+needed Ask.Collect = none
+needed Ask.Check = none
+needed (Ask.SetInteger r v) = none
+needed (Ask.SetNull r) = none
+needed (Ask.Copy from to) = none
+needed (Ask.Load r f to) = none
+needed (Ask.Store r f from) = none
+needed (Ask.RawRead r f) = none
+needed (Ask.RawWrite r f x) = none
+needed (Ask.Same r q) = none
+needed (Ask.Inspect r) = none
+
+-- the graph carries the call out, and live words and needed words exceed a half of S words
+pub record Exceeds (S : ℕ) (g : Graph) (c : Call) : Type 0 where
+  pub unrefused : (k : Refusal) → graphStep c g .answer ≡ Says.Refused k → ⊥
+  pub words : ℕ
+  pub needs : needed c ≡ some words
+  pub exceed : S < graphLive g + words
 
 -- ---- the graph's live words
 
@@ -77,27 +111,54 @@ pub record Lists (g : Graph) (o : List ℕ) : Type 0 where
 
 -- ---- the demand
 
-pub record Demand3 (Y : Layout) (M : Machine) : Type 0 where
+module _ (M : Machine) where
   -- k calls of any list, none of which the smaller heap answers "no room": both heaps and the graph answer the same
-  pub sameAnswers : (small large : List ℕ) (S S⁺ n k : ℕ) (q q⁺ : Record) (cs : List Call) → Halves small S → Halves large S⁺ → S ≤ S⁺ → n ≤ maxRoots
-      → (List·Memᴰ noRoom (take k (answers M cs (begun M small n q))) → ⊥)
-      → (take k (answers M cs (begun M small n q)) ≡ take k (answers M cs (begun M large n q⁺)))
-      × (take k (answers M cs (begun M small n q)) ≡ take k (graphAnswers cs (emptyGraph n)))
-  -- after any list of calls, "no room" exactly when the graph's live words and the words needed exceed the half; the graph is that
-  -- of the calls carried out
-  pub room : (words : List ℕ) (S n : ℕ) (q : Record) (cs : List Call) (k : Kind) (m r : ℕ) → Halves words S → n ≤ maxRoots → r < n → m ≤ maxFields
-      → (M .step (Ask.Allocate k m r) (after M cs (begun M words n q)) .answer ≡ noRoom)
-      ↔ (S < graphLive (graphAfter (carriedOut M cs (begun M words n q)) (emptyGraph n)) + (m + 1))
-  -- live words are the sum of n + 1 over the reachable objects of the graph, after any list of calls: some list names each of
-  -- them once, and every such list has that sum
-  pub listable : (cs : List Call) (n : ℕ) → (o : List ℕ) × Lists (graphAfter cs (emptyGraph n)) o
-  pub live : (cs : List Call) (n : ℕ) (o : List ℕ) → Lists (graphAfter cs (emptyGraph n)) o
-      → graphLive (graphAfter cs (emptyGraph n)) ≡ graphSizes (graphAfter cs (emptyGraph n)) o
-  -- no session call leaves an unsound heap of a sound one; every heap of a session is sound
-  pub keepsSound : (s : State) (c : Call) → sound Y s ≡ true → sound Y (M .step c s .left) ≡ true
-  pub staysSound : (words : List ℕ) (S n : ℕ) (q : Record) (cs : List Call) → Halves words S → n ≤ maxRoots → sound Y (after M cs (begun M words n q)) ≡ true
-  -- and in a session SHAPE and DAMAGED never occur
-  pub neverShape : (words : List ℕ) (S n : ℕ) (q : Record) (cs : List Call) → Halves words S → n ≤ maxRoots
-      → List·Memᴰ (Says.Refused Why.Shape) (answers M cs (begun M words n q)) → ⊥
-  pub neverDamaged : (words : List ℕ) (S n : ℕ) (q : Record) (cs : List Call) → Halves words S → n ≤ maxRoots
-      → List·Memᴰ (Says.Refused Why.Damaged) (answers M cs (begun M words n q)) → ⊥
+  abbrev pub SameAnswers : State → State → Graph → Type 0
+  SameAnswers small large g = (cs : List Call) (k : ℕ) → (List·Memᴰ noRoom (take k (answers M cs small)) → ⊥)
+      → (take k (answers M cs small) ≡ take k (answers M cs large)) × (take k (answers M cs small) ≡ take k (graphAnswers cs g))
+
+  -- after any list of calls, "no room" exactly when the graph's live words and the words needed exceed the half, which has S
+  -- words; the graph is that of the calls carried out
+  abbrev pub RoomExactly : ℕ → State → Graph → Type 0
+  RoomExactly S s g = (cs : List Call) (c : Call)
+      → (M .step c (after M cs s) .answer ≡ noRoom) ↔ Exceeds S (graphAfter (carriedOut M cs s) g) c
+
+  -- the refusal k is no answer to any list of calls
+  abbrev pub Never : Refusal → State → Type 0
+  Never k s = (cs : List Call) → List·Memᴰ (Says.Refused k) (answers M cs s) → ⊥
+
+-- live words are the sum of n + 1 over the reachable objects of the graph: some list names each of them once, and every such list
+-- has that sum
+pub record LiveWords (g : Graph) : Type 0 where
+  pub listable : (o : List ℕ) × Lists g o
+  pub live : (o : List ℕ) → Lists g o → graphLive g ≡ graphSizes g o
+
+-- each word is one of 32 bits, as the words of a host are
+pub record OfWords (s : State) : Type 0 where
+  pub heap : (i : ℕ) → at (s .heap) i < 4_294_967_296
+  pub roots : (r : ℕ) → rootWord s r < 4_294_967_296
+
+pub record Demand3 (Y : Layout) (M : Machine) : Type 0 where
+  -- of any two sound states that stand for one graph, the second no smaller: wherever their objects lie, whatever garbage they hold
+  pub sameAnswers : (small large : State) (g : Graph) → Represents Y small g → Represents Y large g
+      → halfWords (small .heap) ≤ halfWords (large .heap) → SameAnswers M small large g
+  pub room : (s : State) (g : Graph) → Represents Y s g → RoomExactly M (halfWords (s .heap)) s g
+  pub live : (s : State) (g : Graph) → Represents Y s g → LiveWords g
+  -- in a session SHAPE and DAMAGED never occur
+  pub neverShape : (s : State) (g : Graph) → Represents Y s g → Never M Why.Shape s
+  pub neverDamaged : (s : State) (g : Graph) → Represents Y s g → Never M Why.Damaged s
+  -- no session call leaves an unsound heap of a sound one, and it stands for the graph of the calls carried out
+  pub keepsSound : (s : State) (c : Call) → Sound Y s → Sound Y (M .step c s .left)
+  pub stands : (s : State) (g : Graph) (cs : List Call) → Represents Y s g → Represents Y (after M cs s) (graphAfter (carriedOut M cs s) g)
+  -- every sound state stands for a graph
+  pub every : (s : State) → OfWords s → Sound Y s → (g : Graph) × Represents Y s g
+  -- what fresh begins stands for the empty graph
+  pub begins : (e : Session) → Represents Y (begun M e) (emptyGraph (e .roots))
+  -- so all this holds of heaps that begin with fresh; the first two sentences in full
+  pub freshAnswers : (small large : Session) → small .roots ≡ large .roots → small .half ≤ large .half
+      → SameAnswers M (begun M small) (begun M large) (emptyGraph (small .roots))
+  pub freshRoom : (e : Session) → RoomExactly M (e .half) (begun M e) (emptyGraph (e .roots))
+  pub freshLive : (cs : List Call) (n : ℕ) → LiveWords (graphAfter cs (emptyGraph n))
+  pub staysSound : (e : Session) (cs : List Call) → Sound Y (after M cs (begun M e))
+  pub freshNeverShape : (e : Session) → Never M Why.Shape (begun M e)
+  pub freshNeverDamaged : (e : Session) → Never M Why.Damaged (begun M e)

@@ -6,7 +6,7 @@
 use Prim.Native.Nat.{ℕ, _+_}
 use mathlib.Core.List.{List, [], _∷_, _++_, map}
 use lib.ListN.{length, take, drop, set}
-use Rattle.model.specs.Words.{State, halfWords, other, firstWord, otherFirst}
+use Rattle.model.specs.Words.{State, withHeap, withRoots, withFree, halfWords, other, firstWord, otherFirst}
 use Rattle.model.specs.Headers.{Layout}
 use Rattle.model.specs.Objects.{address}
 use Rattle.model.specs.Discovery.{packed, wordsBefore}
@@ -30,13 +30,13 @@ module _ (Y : Layout) where
       let S = halfWords H in
       let b = otherFirst s in
       let cs = packed (cells Y H) o in
-      record {
-        heap = build (other (s .«record» .half))
-            (filled S (map (settle Y H o b) (take p cs) ++ map oldWord (drop p cs)))
-            (take S (drop (firstWord s) (marked H o b o)));
-        roots = map (rename Y H o b) (s .roots);
-        «record» = record { half = other (s .«record» .half); free = record { 0 = b + length cs } };
-      }
+      withFree (other (s .«record» .half)) (b + length cs)
+      (withRoots (map (rename Y H o b) (s .roots))
+      (withHeap
+      (build (other (s .«record» .half))
+      (filled S (map (settle Y H o b) (take p cs) ++ map oldWord (drop p cs)))
+      (take S (drop (firstWord s) (marked H o b o))))
+      s))
 
   abbrev pub during : State → ℕ → State
   during s p = stage s (orderAt Y s p) p

@@ -26,13 +26,24 @@ pub record Layout : Type 0 where
   pub mark : ℕ → ℕ
   pub unmark : ℕ → ℕ
 
--- what is written is a header and reads back; a mark is no header and reads back
-pub record Lawful (Y : Layout) : Type 0 where
-  pub clear : (k : Kind) (n : ℕ) → n ≤ maxFields → Y .isHeader (Y .header k n) ≡ true
-  pub counts : (k : Kind) (n : ℕ) → n ≤ maxFields → Y .countOf (Y .header k n) ≡ n
-  pub kinds : (k : Kind) (n : ℕ) → n ≤ maxFields → Y .kindOf (Y .header k n) ≡ k
+-- what the layout writes for an object of kind k is a header and reads back
+pub record Writes (Y : Layout) (k : Kind) : Type 0 where
+  pub clear : (n : ℕ) → n ≤ maxFields → Y .isHeader (Y .header k n) ≡ true
+  pub counts : (n : ℕ) → n ≤ maxFields → Y .countOf (Y .header k n) ≡ n
+  pub kinds : (n : ℕ) → n ≤ maxFields → Y .kindOf (Y .header k n) ≡ k
+
+-- a mark is no header and reads back
+pub record Marks (Y : Layout) : Type 0 where
   pub marks : (i : ℕ) → Y .isHeader (Y .mark (addressOf i)) ≡ false
   pub unmarks : (i : ℕ) → Y .unmark (Y .mark (addressOf i)) ≡ addressOf i
+
+abbrev pub WritesBoth : Layout → Type 0
+WritesBoth Y = (k : Kind) → Writes Y k
+
+-- both kinds are written, and copied objects can be marked
+pub record Lawful (Y : Layout) : Type 0 where
+  pub writes : WritesBoth Y
+  pub forwards : Marks Y
 
 abbrev pub bit31 : Kind → ℕ
 bit31 Traced = 0

@@ -1,5 +1,5 @@
--- Further laws, as types: what a window shows, integers and headers written and read back, lengths, and that a promise
--- settles everything.
+-- Further laws, as types: what a window shows, integers and headers written and read back, lengths, that answers in numbers can
+-- be told apart, and that a promise settles everything.
 use Prim.Native.Nat.{ℕ, _*_, _%_, _≤_, _<_}
 use mathlib.Core.Path.{_≡_}
 use mathlib.Core.Bool.{true}
@@ -19,7 +19,7 @@ use Rattle.model.specs.Words.{State, at}
 use Rattle.model.specs.Values.{isOdd, inRange, tag, untag}
 use Rattle.model.specs.Headers.{Layout, Lawful, tuple}
 use Rattle.model.specs.Objects.{index, fieldCount, fieldIndex}
-use Rattle.model.specs.Answers.{Outcome, outcome}
+use Rattle.model.specs.Answers.{Outcome, outcome, told}
 use Rattle.model.specs.Changes.{rootWord}
 use Rattle.model.specs.Window.{window, shown, windowCount, windowWord}
 use Rattle.model.specs.Sessions.{Machine}
@@ -68,6 +68,11 @@ pub record KeepsLengths (M : Machine) : Type 0 where
   pub freshHeap : (s : State) → length (M .fresh s .left .heap) ≡ length (s .heap)
   pub freshRoots : (s : State) → M .fresh s .left .roots ≡ s .roots
 
+-- answers in numbers can be told apart: two answers of one call with equal numbers are equal
+abbrev pub ToldApart : Machine → Type 0
+ToldApart M = (c : Call) (s s′ : State) → told (M .step c s .answer) ≡ told (M .step c s′ .answer)
+    → M .step c s .answer ≡ M .step c s′ .answer
+
 -- a promise is an equation `outcome .. ≡ o`: any two outcomes that it allows have equal answers, records, words and roots
 abbrev pub Settles : Type 0
-Settles = (o : Outcome) (a b : Answered) (H H′ R R′ : List ℕ) → outcome a H R ≡ o → outcome b H′ R′ ≡ o → (a ≡ b) × (H ≡ H′) × (R ≡ R′)
+Settles = (o : Outcome State) (a b : Answered) (H H′ R R′ : List ℕ) → outcome a H R ≡ o → outcome b H′ R′ ≡ o → (a ≡ b) × (H ≡ H′) × (R ≡ R′)

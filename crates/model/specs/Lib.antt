@@ -11,6 +11,7 @@ pub mod Soundness
 pub mod Collection
 pub mod During
 pub mod Answers
+pub mod Admission
 pub mod Changes
 pub mod Calls
 pub mod Window
@@ -18,8 +19,12 @@ pub mod Sessions
 pub mod Graph
 pub mod GraphCalls
 pub mod Worked
+pub mod Conditions
 pub mod Refusals
 pub mod Demand1
 pub mod Demand2
+pub mod Effects
+pub mod Represents
 pub mod Demand3
+pub mod Looks
 pub mod Laws

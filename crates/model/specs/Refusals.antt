@@ -1,8 +1,8 @@
 -- Document 01's table of refusals: each row with its condition, stated apart from the calls' definitions, and for each call the
--- rows that it can meet, in their order. Demand1 says that a call gives the first that applies.
+-- rows that it can meet, in their order. Demand1 says that a call gives the first that applies. The numbers are names; the order
+-- is by `rank`.
 use Prim.Native.Nat.{ℕ, _+_, _%_, _≤_, _<_}
 use mathlib.Core.Path.{_≡_}
-use mathlib.Core.Bool.{true, false}
 use mathlib.Core.List.{List, [], _∷_, List·Memᴰ}
 use lib.ListN.{length}
 use lib.IntN.{ℤ, pos, negsuc}
@@ -12,14 +12,13 @@ use Rattle.model.specs.declared.Refusal.{Refusal}
 use Rattle.model.specs.declared.Refusal.the-variants as Why
 use Rattle.model.specs.declared.Call.{Call}
 use Rattle.model.specs.declared.Call.the-variants as Ask
-use Rattle.model.specs.Limits.{maxWords, maxRoots, maxFields, maxInteger}
-use Rattle.model.specs.Words.{State, halfWords, firstWord, free}
-use Rattle.model.specs.Values.{isAddress}
+use Rattle.model.specs.Limits.{maxFields, maxInteger}
+use Rattle.model.specs.Words.{State}
 use Rattle.model.specs.Headers.{Layout}
-use Rattle.model.specs.Objects.{index, kind, fieldCount, names}
-use Rattle.model.specs.Soundness.{sound}
+use Rattle.model.specs.Objects.{index, kind, fieldCount}
 use Rattle.model.specs.Collection.{collected}
 use Rattle.model.specs.Changes.{rootWord, spare}
+use Rattle.model.specs.Conditions.{BadLength, BadShape, Names, Sound}
 
 -- a refusal, and when it applies
 pub record Row : Type 1 where
@@ -29,20 +28,19 @@ pub record Row : Type 1 where
 abbrev pub row : Refusal → Type 0 → Row
 row k p = record { refusal = k; applies = p }
 
--- ---- the conditions
+-- the order in which refusals are given: of several that apply, the one of the lowest rank. Today it is that of the numbers.
+abbrev pub rank : Refusal → ℕ
+rank Why.Shape = 0
+rank Why.Root = 1
+rank Why.Count = 2
+rank Why.Range = 3
+rank Why.Object = 4
+rank Why.Kind = 5
+rank Why.Field = 6
+rank Why.Damaged = 7
+rank Why.Room = 8
 
--- 1: the heap's length is even, below 3 or above 2,097,153
-pub data BadLength (s : State) : Type 0 where
-  even : length (s .heap) % 2 ≡ 0 → BadLength s
-  short : length (s .heap) < 3 → BadLength s
-  long : maxWords < length (s .heap) → BadLength s
-
--- or more than 65,536 roots; or the free index lies outside its range, from the half's first word to one past its last
-pub data BadShape (s : State) : Type 0 where
-  badLength : BadLength s → BadShape s
-  manyRoots : maxRoots < length (s .roots) → BadShape s
-  freeBefore : free s < firstWord s → BadShape s
-  freePast : firstWord s + halfWords (s .heap) < free s → BadShape s
+-- ---- the conditions: those of SHAPE, `Names` and `Sound` are in Conditions
 
 -- 2: a root number named is not below the number of roots
 abbrev pub NoRoot : State → List ℕ → Type 0
@@ -58,26 +56,25 @@ abbrev pub CalledFor : ℕ → State → Type 0
 CalledFor n s = spare s < n + 1
 
 module _ (Y : Layout) (s : State) where
-  abbrev pub Names : ℕ → Type 0
-  Names r = names Y s (rootWord s r) ≡ true
-
   -- 5: the root that must name an object does not; for inspect, its word is even, not 0 and names none
   abbrev pub NoObject : ℕ → Type 0
-  NoObject r = names Y s (rootWord s r) ≡ false
+  NoObject r = Names Y s (rootWord s r) → ⊥
 
-  abbrev pub NoValue : ℕ → Type 0
-  NoValue r = (isAddress (rootWord s r) ≡ true) × NoObject r
+  pub record NoValue (r : ℕ) : Type 0 where
+    pub even : rootWord s r % 2 ≡ 0
+    pub notNull : rootWord s r ≡ 0 → ⊥
+    pub namesNone : NoObject r
 
   -- 6: a traced call on an untraced object, or the reverse
   abbrev pub OtherKind : Kind → ℕ → Type 0
-  OtherKind k r = Names r × (kind Y (s .heap) (index Y (rootWord s r)) ≡ k → ⊥)
+  OtherKind k r = Names Y s (rootWord s r) × (kind Y (s .heap) (index Y (rootWord s r)) ≡ k → ⊥)
 
   -- 7: the field number is n or more
   abbrev pub NoField : ℕ → ℕ → Type 0
-  NoField r f = Names r × (fieldCount Y (s .heap) (index Y (rootWord s r)) ≤ f)
+  NoField r f = Names Y s (rootWord s r) × (fieldCount Y (s .heap) (index Y (rootWord s r)) ≤ f)
 
   abbrev pub Unsound : Type 0
-  Unsound = sound Y s ≡ false
+  Unsound = Sound Y s → ⊥
 
 -- ---- the rows of each call
 
@@ -100,8 +97,11 @@ rootsNamed (Ask.Inspect r) = r ∷ []
 abbrev pub freshRows : State → List Row
 freshRows s = row Why.Shape (BadLength s) ∷ []
 
+-- every other call gives SHAPE and ROOT first, and then its own
+abbrev pub admittedRows : List ℕ → State → List Row → List Row
+admittedRows named s own = row Why.Shape (BadShape s) ∷ row Why.Root (NoRoot s named) ∷ own
+
 module _ (Y : Layout) where
-  -- what a call gives after SHAPE and ROOT
   abbrev pub fieldRows : Kind → ℕ → ℕ → State → List Row
   fieldRows k r f s =
       row Why.Object (NoObject Y s r) ∷ row Why.Kind (OtherKind Y s k r) ∷ row Why.Field (NoField Y s r f) ∷ []
@@ -123,8 +123,8 @@ module _ (Y : Layout) where
   ownRows (Ask.Inspect r) s = row Why.Object (NoValue Y s r) ∷ []
 
   abbrev pub rows : Call → State → List Row
-  rows c s = row Why.Shape (BadShape s) ∷ row Why.Root (NoRoot s (rootsNamed c)) ∷ ownRows c s
+  rows c s = admittedRows (rootsNamed c) s (ownRows c s)
 
   -- the window, which beside the session names a root too
   abbrev pub windowRows : ℕ → State → List Row
-  windowRows r s = row Why.Shape (BadShape s) ∷ row Why.Root (NoRoot s (r ∷ [])) ∷ row Why.Object (NoObject Y s r) ∷ []
+  windowRows r s = admittedRows (r ∷ []) s (row Why.Object (NoObject Y s r) ∷ [])

@@ -10,7 +10,7 @@ use Rattle.model.specs.Calls as Calls
 use Rattle.model.specs.Calls.{fresh}
 
 -- one session call
-unfoldable pub step : Layout → Call → State → Outcome
+unfoldable pub step : Layout → Call → State → Outcome State
 step Y Ask.Collect s = Calls.collect Y s
 step Y Ask.Check s = Calls.check Y s
 step Y (Ask.Allocate k n r) s = Calls.allocate Y k n r s
@@ -27,8 +27,8 @@ step Y (Ask.Inspect r) s = Calls.inspect Y r s
 -- what the demands are about: a way to start a heap and to answer a call. Each demand is stated of any machine, so that it
 -- can be held against a wrong one too, and proved of this library's, `machine`.
 pub record Machine : Type 0 where
-  pub fresh : State → Outcome
-  pub step : Call → State → Outcome
+  pub fresh : State → Outcome State
+  pub step : Call → State → Outcome State
 
 abbrev pub machine : Layout → Machine
 machine Y = record { fresh = fresh; step = step Y }

@@ -1,7 +1,7 @@
 -- The window on the object that a root names. Document 01, "The calls".
 use Prim.Native.Nat.{ℕ, _+_}
 use mathlib.Core.Bool.{not, cond}
-use mathlib.Core.List.{List, []}
+use mathlib.Core.List.{List, [], _∷_}
 use lib.Dec.{leb}
 use lib.ListN.{take, drop}
 use Rattle.model.specs.declared.Refusal.the-variants as Why
@@ -11,18 +11,17 @@ use Rattle.model.specs.declared.Place.{Place}
 use Rattle.model.specs.declared.Place.the-variants.{Object, Refused}
 use Rattle.model.specs.Words.{State, at}
 use Rattle.model.specs.Headers.{Layout}
-use Rattle.model.specs.Shape.{badShape}
 use Rattle.model.specs.Objects.{index, fieldCount, names}
-use Rattle.model.specs.Changes.{noRoot, rootWord}
+use Rattle.model.specs.Admission.{admitted}
+use Rattle.model.specs.Changes.{rootWord}
 
 -- where root r's object stands, of either kind; or SHAPE, ROOT or OBJECT
 unfoldable pub window : Layout → ℕ → State → Place
 window Y r s =
     let i = index Y (rootWord s r) in
-    cond (badShape s) (Refused Why.Shape)
-    (cond (noRoot s r) (Refused Why.Root)
+    admitted (λ b k next. cond b (Refused k) next) (r ∷ []) s
     (cond (not (names Y s (rootWord s r))) (Refused Why.Object)
-    (Object (record { 0 = i }) (fieldCount Y (s .heap) i))))
+    (Object (record { 0 = i }) (fieldCount Y (s .heap) i)))
 
 -- the part of the heap that it shows: the n words after the header; none where it is refused
 abbrev pub shown : List ℕ → Place → List ℕ

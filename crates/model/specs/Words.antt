@@ -19,6 +19,19 @@ pub record State : Type 0 where
 abbrev pub lent : List ℕ → List ℕ → Record → State
 lent H R q = record { heap = H; roots = R; «record» = q }
 
+-- the same with another heap, with other roots, with another record, with another half and free index
+abbrev pub withHeap : List ℕ → State → State
+withHeap H s = record { heap = H; roots = s .roots; «record» = s .«record» }
+
+abbrev pub withRoots : List ℕ → State → State
+withRoots R s = record { heap = s .heap; roots = R; «record» = s .«record» }
+
+abbrev pub withRecord : Record → State → State
+withRecord q s = record { heap = s .heap; roots = s .roots; «record» = q }
+
+abbrev pub withFree : Half → ℕ → State → State
+withFree h f s = withRecord (record { half = h; free = record { 0 = f } }) s
+
 -- a word of a run. Past the end it reads 0: each call tests an index before it looks.
 abbrev pub at : List ℕ → ℕ → ℕ
 at H i = getD H i 0

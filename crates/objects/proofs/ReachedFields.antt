@@ -27,22 +27,22 @@ use Rattle.naming.proofs.NamedObjects.{free-in-heap, named-ends}
 use Rattle.access.proofs.RootNumbers.{both-below}
 
 -- what a call comes to that does `next` with the index of its field
-unfoldable pub answered : Field → State → (ℕ → Outcome) → Outcome
+unfoldable pub answered : Field → State → (ℕ → Outcome State) → Outcome State
 answered (At i) s next = next (i .0)
 answered (Refused k) s next = says (Says.Refused k) s
 
 -- such a call, where the field is known, or the refusal
-pub by-field : {o : Outcome} {x : Field} {i : Index} (s : State) (next : ℕ → Outcome)
+pub by-field : {o : Outcome State} {x : Field} {i : Index} (s : State) (next : ℕ → Outcome State)
     → o ≡ answered x s next → x ≡ At i → next (i .0) ≡ o
 unfolding answered
 by-field s next e f = sym (e ∙ ap (λ (x : Field). answered x s next) f)
 
-pub by-refusal : {o : Outcome} {x : Field} {k : Refusal} (s : State) (next : ℕ → Outcome)
+pub by-refusal : {o : Outcome State} {x : Field} {k : Refusal} (s : State) (next : ℕ → Outcome State)
     → o ≡ answered x s next → x ≡ Refused k → says (Says.Refused k) s ≡ o
 unfolding answered
 by-refusal s next e f = sym (e ∙ ap (λ (x : Field). answered x s next) f)
 
-answered-refuse : (b : Bool) (k : Refusal) (x : Field) (s : State) (next : ℕ → Outcome)
+answered-refuse : (b : Bool) (k : Refusal) (x : Field) (s : State) (next : ℕ → Outcome State)
     → answered (cond b (Refused k) x) s next ≡ refuse b k s (answered x s next)
 unfolding answered refuse
 answered-refuse true k x s next = refl
@@ -60,7 +60,7 @@ pub record Reaches (s : State) (r q : ℕ) (i : Index) : Type 0 where
   pub other : q < length (s .roots)
 
 module _ (Y : Layout) where
-  on-reached : (k : Kind) (r f q : ℕ) (s : State) (next : ℕ → Outcome)
+  on-reached : (k : Kind) (r f q : ℕ) (s : State) (next : ℕ → Outcome State)
       → refuse (badShape s) Why.Shape s
       (refuse (noRoot s r || noRoot s q) Why.Root s
       (onField Y k (rootWord s r) f s (next (fieldIndex (index Y (rootWord s r)) f))))
@@ -69,7 +69,7 @@ module _ (Y : Layout) where
   on-reached k r f q s next = sym (simp answered-refuse)
 
   -- a call that names one root only
-  on-reached-once : (k : Kind) (r f : ℕ) (s : State) (next : ℕ → Outcome)
+  on-reached-once : (k : Kind) (r f : ℕ) (s : State) (next : ℕ → Outcome State)
       → refuse (badShape s) Why.Shape s
       (refuse (noRoot s r) Why.Root s
       (onField Y k (rootWord s r) f s (next (fieldIndex (index Y (rootWord s r)) f))))

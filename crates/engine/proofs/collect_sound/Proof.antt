@@ -13,22 +13,22 @@ use Rattle.words.proofs.shape.other_half.Reads as other-half-reads
 
 sub-words : tie.Need-sub-words
 sub-words c =
-    let a = shape _ tuple-lawful _ (c .before .before .pre) in
+    let a = shape _ (tuple-lawful .forwards) _ (c .before .before .pre) in
     omega (arith, a .odd)
 
 other-half-requires : tie.Need-other-half-requires
 other-half-requires c κs = search needs
 
 first-of-requires : tie.Need-first-of-requires
-first-of-requires c κs = shape _ tuple-lawful _ (c .before .before .before .pre) .small
+first-of-requires c κs = shape _ (tuple-lawful .forwards) _ (c .before .before .before .pre) .small
 
 first-of-requires-2 : tie.Need-first-of-requires-2
-first-of-requires-2 c κs = shape _ tuple-lawful _ (c .before .before .before .before .pre) .small
+first-of-requires-2 c κs = shape _ (tuple-lawful .forwards) _ (c .before .before .before .before .pre) .small
 
 sub-used : tie.Need-sub-used
 sub-used c =
     let first = c .before .before .before in
-    let a = shape _ tuple-lawful _ (first .before .before .before .before .pre) in
+    let a = shape _ (tuple-lawful .forwards) _ (first .before .before .before .before .pre) in
     omega (arith, a .low, first .first-of .ensures)
 
 evacuate-requires : tie.Need-evacuate-requires
@@ -36,7 +36,7 @@ evacuate-requires c κs =
     let there = c .before .before .before .before in
     let here = there .before in
     let other = here .before in
-    may-evacuate _ tuple-lawful _ (other .before .before .before .pre) _ _ _
+    may-evacuate _ (tuple-lawful .forwards) _ (other .before .before .before .pre) _ _ _
     (other .other-half .ensures) (here .first-of .ensures) (there .first-of2 .ensures)
 
 sub-live : tie.Need-sub-live
@@ -45,7 +45,7 @@ sub-live c =
     let there = done .before .before .before .before .before in
     let here = there .before in
     let other = here .before in
-    end-low _ tuple-lawful _ (other .before .before .before .pre) _ _ _
+    end-low _ (tuple-lawful .forwards) _ (other .before .before .before .pre) _ _ _
     (other .other-half .ensures) (here .first-of .ensures) (there .first-of2 .ensures) _ _ _ (done .evacuate .ensures)
 
 cast-live : tie.Need-cast-live
@@ -56,7 +56,7 @@ cast-live c =
     let other = here .before in
     omega (
       arith,
-      end-high _ tuple-lawful _ (other .before .before .before .pre) _ _ _
+      end-high _ (tuple-lawful .forwards) _ (other .before .before .before .pre) _ _ _
           (other .other-half .ensures) (here .first-of .ensures) (there .first-of2 .ensures) _ _ _ (done .evacuate .ensures),
     )
 
@@ -72,7 +72,7 @@ returns c =
     let there = done .before .before .before .before .before in
     let here = there .before in
     let other = here .before in
-    collect-is _ tuple-lawful _ (other .before .before .before .pre) _ _ _
+    collect-is _ (tuple-lawful .forwards) _ (other .before .before .before .pre) _ _ _
     (other .other-half .ensures) (here .first-of .ensures) (there .first-of2 .ensures) _ _ _ (done .evacuate .ensures)
 
 pub collect-sound-spec : {M : Type 1} → statement M

@@ -34,7 +34,7 @@ rooted : (c : tie.Else2) → let s = c .before .before .before .before .before .
 rooted c = sym (c .before .no-root .ensures) ∙ c .if2 .left
 
 -- what is said of two words, by whether they are equal
-abbrev answer : State → Bool → Outcome
+abbrev answer : State → Bool → Outcome State
 answer s b = says (cond b Says.Yes Says.No) s
 
 below : (c : tie.Else2) → let s = c .before .before .before .before .before .before in

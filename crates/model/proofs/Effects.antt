@@ -1,0 +1,96 @@
+-- The library's machine does what document 01's "The calls" says, where nothing refuses. Assumes nothing.
+use Prim.Native.Nat.{ℕ, _%_}
+use native.Mathlib.Omega.{arith}
+use mathlib.Core.Path.{_≡_, refl, sym, ap, _∙_}
+use mathlib.Core.Logic.{_↔_}
+use mathlib.Core.Bool.{Bool, true, false, cond}
+use lib.Dec.{eqb}
+use lib.ListN.{length, length-replicate}
+use borrow.Author.Tests.{eqb-true, eqb-false, eq-eqb, ne-eqb}
+use Rattle.model.specs.declared.Answer.{Answer}
+use Rattle.model.specs.declared.Answer.the-variants as Says
+use Rattle.model.specs.declared.Call.the-variants as Ask
+use Rattle.model.specs.Answers.{Outcome, says}
+use Rattle.model.specs.Calls.{fresh, freshRecord}
+use Rattle.model.specs.Changes.{rootWord}
+use Rattle.model.specs.Conditions as C
+use Rattle.model.specs.Conditions.{Decides}
+use Rattle.model.specs.Effects as E
+use Rattle.model.specs.Headers.{Layout}
+use Rattle.model.specs.Sessions.{step, machine}
+use Rattle.model.specs.Soundness.{sound}
+use Rattle.model.specs.Values.{isOdd, isNull, untag}
+use Rattle.model.specs.Words.{State, lent}
+use Rattle.model.proofs.CallsPass.{fails-test, done-with, set-integer, set-null, copies, loads, stores, raw-writes, raw-reads, checks, sames, seen, objectSeen, inspects, allocates-now, allocates-then}
+use Rattle.model.proofs.Deciding.{length-decides, sound-decides}
+use Rattle.model.proofs.Lists.{getD-same}
+use Rattle.model.proofs.Start.{fresh-good}
+
+-- one of two answers by a test, and the condition that the test decides
+chosen-true : {P : Type 0} (b : Bool) (x y : Answer) → Decides b P → (y ≡ x → ⊥) → (cond b x y ≡ x) ↔ P
+chosen-true true x y d n = (λ e. d .holds refl, λ p. refl)
+chosen-true false x y d n = (λ e. absurd (n e), λ p. absurd (d .fails refl p))
+
+chosen-false : {P : Type 0} (b : Bool) (x y : Answer) → Decides b P → (x ≡ y → ⊥) → (cond b x y ≡ y) ↔ (P → ⊥)
+chosen-false true x y d n = (λ e. absurd (n e), λ f. absurd (f (d .holds refl)))
+chosen-false false x y d n = (λ e. d .fails refl, λ f. refl)
+
+equal-decides : (a b : ℕ) → Decides (eqb a b) (a ≡ b)
+equal-decides a b = record { holds = eqb-true a b; fails = eqb-false a b }
+
+sound-unsound : Says.Unsound ≡ Says.Sound → ⊥
+sound-unsound e = let z : _≡_ {A = ℕ} 0 1 = cc in omega arith
+
+yes-no : Says.No ≡ Says.Yes → ⊥
+yes-no e = let z : _≡_ {A = ℕ} 0 1 = cc in omega arith
+
+fresh-clears : (s : State) → (C.BadLength s → ⊥) → E.Done (fresh s) (E.Cleared s)
+fresh-clears s n =
+    done-with (E.Cleared s) _ (fresh-good s (fails-test (length-decides s) n)) (record {
+      zeros = λ i. getD-same {A = ℕ} (length (s .heap)) i 0;
+      sameLength = length-replicate (length (s .heap)) 0;
+      sameRoots = refl;
+      newRecord = refl;
+    })
+
+module _ (Y : Layout) where
+  -- what is seen in a root
+  seen-null : (s : State) (w : ℕ) → w ≡ 0 → seen Y s w ≡ Says.Null
+  seen-null s w e = rw e
+
+  seen-integer : (s : State) (w : ℕ) → w % 2 ≡ 1 → seen Y s w ≡ Says.Integer (untag w)
+  seen-integer s w e = rw (eq-eqb (w % 2) 1 e)
+
+  seen-object : (s : State) (w : ℕ) → C.Names Y s w → seen Y s w ≡ objectSeen Y s w
+  seen-object s w n = rw (ne-eqb (w % 2) 1 (λ e. omega (arith, n .even)), ne-eqb w 0 (n .notNull))
+
+  pub effects : E.Effects Y (machine Y)
+  effects = record {
+    fresh = fresh-clears;
+    checkSound = λ s p. rw (checks Y s p) (chosen-true (sound Y s) Says.Sound Says.Unsound (sound-decides Y s) sound-unsound);
+    checkUnsound = λ s p.
+        rw (checks Y s p) (chosen-false (sound Y s) Says.Sound Says.Unsound (sound-decides Y s) (λ e. sound-unsound (sym e)));
+    checkLeaves = λ s p. ap (λ o. o .left) (checks Y s p);
+    allocateNow = λ k n r s. allocates-now Y s k n r;
+    allocateThen = λ k n r s. allocates-then Y s k n r;
+    setInteger = λ r v s. set-integer Y s r v;
+    setNull = λ r s. set-null Y s r;
+    copy = λ from to s. copies Y s from to;
+    load = λ r f to s. loads Y s r f to;
+    store = λ r f from s. stores Y s r f from;
+    rawRead = λ r f s p. ap (λ o. o .answer) (raw-reads Y s r f p);
+    rawReadLeaves = λ r f s p. ap (λ o. o .left) (raw-reads Y s r f p);
+    rawWrite = λ r f x s. raw-writes Y s r f x;
+    sameYes = λ r q s p.
+        rw (sames Y s r q p)
+        (chosen-true (eqb (rootWord s r) (rootWord s q)) Says.Yes Says.No (equal-decides (rootWord s r) (rootWord s q)) yes-no);
+    sameNo = λ r q s p.
+        rw (sames Y s r q p)
+        (chosen-false (eqb (rootWord s r) (rootWord s q)) Says.Yes Says.No (equal-decides (rootWord s r) (rootWord s q))
+        (λ e. yes-no (sym e)));
+    sameLeaves = λ r q s p. ap (λ o. o .left) (sames Y s r q p);
+    inspectNull = λ r s p e. ap (λ o. o .answer) (inspects Y s r p) ∙ seen-null s (rootWord s r) e;
+    inspectInteger = λ r s p e. ap (λ o. o .answer) (inspects Y s r p) ∙ seen-integer s (rootWord s r) e;
+    inspectObject = λ r s p n. ap (λ o. o .answer) (inspects Y s r p) ∙ seen-object s (rootWord s r) n;
+    inspectLeaves = λ r s p. ap (λ o. o .left) (inspects Y s r p);
+  }

@@ -1,0 +1,239 @@
+-- Two machines that meet demand 1, demand 2 and the sentences of Effects answer every call alike and leave the same. Assumes nothing.
+use Prim.Native.Nat.{ℕ, _+_, _-_, _%_, _≤_, _<_}
+use native.Mathlib.Omega.{arith}
+use mathlib.Core.Path.{_≡_, refl, sym, ap, _∙_, subst}
+use mathlib.Core.Logic.{_⊎_, inl, inr, ⊎-elim, _↔_}
+use mathlib.Core.Bool.{true, false, not}
+use lib.Dec.{leb}
+use lib.ListN.{length}
+use lib.Seq.{ext-getD}
+use borrow.Author.Tests.{eqb-true, eqb-false, not-true, not-false}
+use Rattle.model.specs.declared.Kind.{Kind}
+use Rattle.model.specs.declared.Refusal.{Refusal}
+use Rattle.model.specs.declared.Refusal.the-variants as Why
+use Rattle.model.specs.declared.Answer.{Answer}
+use Rattle.model.specs.declared.Answer.the-variants as Says
+use Rattle.model.specs.declared.Call.{Call}
+use Rattle.model.specs.declared.Call.the-variants as Ask
+use Rattle.model.specs.Answers.{Outcome}
+use Rattle.model.specs.Changes.{rootWord, spare}
+use Rattle.model.specs.Collection.{collected}
+use Rattle.model.specs.Conditions as C
+use Rattle.model.specs.Conditions.{Decides}
+use Rattle.model.specs.Demand1 as D1
+use Rattle.model.specs.Demand2 as D
+use Rattle.model.specs.Effects as E
+use Rattle.model.specs.Headers.{Layout}
+use Rattle.model.specs.Objects.{fieldIndex, names}
+use Rattle.model.specs.Refusals as Row
+use Rattle.model.specs.Sessions.{Machine, step, machine}
+use Rattle.model.specs.Shape.{badLength}
+use Rattle.model.specs.Soundness.{sound}
+use Rattle.model.specs.Values.{isOdd, isNull}
+use Rattle.model.specs.Words.{State, at, free}
+use Rattle.model.proofs.CallsPass.{fails-test}
+use Rattle.model.proofs.Conditions.{value-decides}
+use Rattle.model.proofs.Deciding.{length-decides, other-address, names-decides, sound-decides}
+use Rattle.model.proofs.Demand1.{demand1}
+use Rattle.model.proofs.Demand2.{demand2}
+use Rattle.model.proofs.Effects.{effects}
+use Rattle.model.proofs.Judged.{Left, unchanged, recollected, Judged, by-row, by-none, step-judged}
+use Rattle.model.proofs.NoChoice.{no-choice}
+use Rattle.model.proofs.Same.{same-record, same-state, same-outcome}
+use Rattle.model.proofs.Tests.{by-test, decide, same?}
+
+-- ---- each change leaves one state
+
+one-root : (s : State) (r w : ℕ) (t t′ : State) → E.RootChanged s r w t → E.RootChanged s r w t′ → t ≡ t′
+one-root s r w t t′ c c′ =
+    same-state t t′ (c .sameHeap ∙ sym (c′ .sameHeap))
+    (ext-getD 0 (t .roots) (t′ .roots) (c .count ∙ sym (c′ .count))
+    (λ q l.
+    ⊎-elim
+    (λ (e : q ≡ r). subst (λ z. at (t .roots) z ≡ at (t′ .roots) z) (sym e) (c .word ∙ sym (c′ .word)))
+    (λ (n : q ≡ r → ⊥). c .others q n ∙ sym (c′ .others q n))
+    (same? q r)))
+    (c .sameRecord ∙ sym (c′ .sameRecord))
+
+one-word : (s : State) (i w : ℕ) (t t′ : State) → E.WordChanged s i w t → E.WordChanged s i w t′ → t ≡ t′
+one-word s i w t t′ c c′ =
+    same-state t t′
+    (ext-getD 0 (t .heap) (t′ .heap) (c .sameLength ∙ sym (c′ .sameLength))
+    (λ j l.
+    ⊎-elim
+    (λ (e : j ≡ i). subst (λ z. at (t .heap) z ≡ at (t′ .heap) z) (sym e) (c .word ∙ sym (c′ .word)))
+    (λ (n : j ≡ i → ⊥). c .others j n ∙ sym (c′ .others j n))
+    (same? j i)))
+    (c .sameRoots ∙ sym (c′ .sameRoots)) (c .sameRecord ∙ sym (c′ .sameRecord))
+
+cleared-once : (s t t′ : State) → E.Cleared s t → E.Cleared s t′ → t ≡ t′
+cleared-once s t t′ c c′ =
+    same-state t t′
+    (ext-getD 0 (t .heap) (t′ .heap) (c .sameLength ∙ sym (c′ .sameLength)) (λ i l. c .zeros i ∙ sym (c′ .zeros i)))
+    (c .sameRoots ∙ sym (c′ .sameRoots)) (c .newRecord ∙ sym (c′ .newRecord))
+
+module _ (Y : Layout) where
+  one-object : (k : Kind) (n r : ℕ) (s t t′ : State) → E.NewObject Y k n r s t → E.NewObject Y k n r s t′ → t ≡ t′
+  one-object k n r s t t′ c c′ =
+      same-state t t′
+      (ext-getD 0 (t .heap) (t′ .heap) (c .sameLength ∙ sym (c′ .sameLength)) (λ i l. word i))
+      (ext-getD 0 (t .roots) (t′ .roots) (c .rootCount ∙ sym (c′ .rootCount))
+      (λ q l.
+      ⊎-elim
+      (λ (e : q ≡ r). subst (λ z. at (t .roots) z ≡ at (t′ .roots) z) (sym e) (c .root ∙ sym (c′ .root)))
+      (λ (d : q ≡ r → ⊥). c .otherRoots q d ∙ sym (c′ .otherRoots q d))
+      (same? q r)))
+      (same-record (t .«record») (t′ .«record») (c .sameHalf ∙ sym (c′ .sameHalf)) (c .freeIs ∙ sym (c′ .freeIs)))
+    where
+      outside : (i : ℕ) → (i < free s) ⊎ (free s + (n + 1) ≤ i) → at (t .heap) i ≡ at (t′ .heap) i
+      outside i o = c .others i o ∙ sym (c′ .others i o)
+
+      field : (f : ℕ) → f < n → at (t .heap) (fieldIndex (free s) f) ≡ at (t′ .heap) (fieldIndex (free s) f)
+      field f l = c .zeros f l ∙ sym (c′ .zeros f l)
+
+      word : (i : ℕ) → at (t .heap) i ≡ at (t′ .heap) i
+      word i =
+          ⊎-elim
+          (λ (a : i < free s). outside i (inl a))
+          (λ (a : free s ≤ i).
+          ⊎-elim
+          (λ (b : i < free s + (n + 1)).
+          ⊎-elim
+          (λ (e : i ≡ free s). subst (λ z. at (t .heap) z ≡ at (t′ .heap) z) (sym e) (c .header ∙ sym (c′ .header)))
+          (λ (d : i ≡ free s → ⊥).
+          let e : fieldIndex (free s) (i - free s - 1) ≡ i = omega arith in
+          subst (λ z. at (t .heap) z ≡ at (t′ .heap) z) e (field (i - free s - 1) (omega arith)))
+          (same? i (free s)))
+          (λ (b : free s + (n + 1) ≤ i). outside i (inr b))
+          (decide i (free s + (n + 1))))
+          (decide i (free s))
+
+  -- ---- two machines
+
+  module _ (M N : Machine) (m : E.Meets Y M) (n : E.Meets Y N) where
+    -- "done" with one change
+    both-done : (o o′ : Outcome State) (P : State → Type 0) → ((t t′ : State) → P t → P t′ → t ≡ t′) → E.Done o P → E.Done o′ P → o ≡ o′
+    both-done o o′ P one d d′ = same-outcome o o′ (d .0 ∙ sym (d′ .0)) (one (o .left) (o′ .left) (d .1) (d′ .1))
+
+    -- the same answer, and everything as it was
+    both-say : (o o′ : Outcome State) (s : State) (a : Answer) → o .answer ≡ a → o′ .answer ≡ a → o .left ≡ s → o′ .left ≡ s → o ≡ o′
+    both-say o o′ s a e e′ l l′ = same-outcome o o′ (e ∙ sym e′) (l ∙ sym l′)
+
+    -- refused alike
+    both-refuse : (c : Call) (s : State) (k : Refusal) → D1.First (Row.rows Y c s) k → Left Y s k (step Y c s .left)
+        → M .step c s ≡ N .step c s
+    both-refuse c s k f (unchanged d l) =
+        let a = m .one .session c s .exactly k .1 f in
+        let b = n .one .session c s .exactly k .1 f in
+        same-outcome (M .step c s) (N .step c s) (a ∙ sym b) (m .one .keeps c s k a d ∙ sym (n .one .keeps c s k b d))
+    both-refuse c s k f (recollected e l) =
+        let f′ = subst (D1.First (Row.rows Y c s)) e f in
+        let a = m .one .session c s .exactly Why.Room .1 f′ in
+        let b = n .one .session c s .exactly Why.Room .1 f′ in
+        same-outcome (M .step c s) (N .step c s) (a ∙ sym b) (m .one .collects c s a ∙ sym (n .one .collects c s b))
+
+    inspect-same : (r : ℕ) (s : State) → E.Passes Y (Ask.Inspect r) s → M .step (Ask.Inspect r) s ≡ N .step (Ask.Inspect r) s
+    inspect-same r s p =
+        let x = m .effects in
+        let y = n .effects in
+        let w = rootWord s r in
+        let o = M .step (Ask.Inspect r) s in
+        let o′ = N .step (Ask.Inspect r) s in
+        let say : (a : Answer) → o .answer ≡ a → o′ .answer ≡ a → o ≡ o′ =
+        λ a e e′. both-say o o′ s a e e′ (x .inspectLeaves r s p) (y .inspectLeaves r s p) in
+        ⊎-elim
+        (λ (a : isOdd w ≡ true).
+        let e = eqb-true (w % 2) 1 a in
+        say _ (x .inspectInteger r s p e) (y .inspectInteger r s p e))
+        (λ (a : isOdd w ≡ false).
+        ⊎-elim
+        (λ (b : isNull w ≡ true).
+        let e = eqb-true w 0 b in
+        say _ (x .inspectNull r s p e) (y .inspectNull r s p e))
+        (λ (b : isNull w ≡ false).
+        let t = not-false (names Y s w) (fails-test (value-decides Y s r (other-address w a b)) (p .1 .1 .0)) in
+        let e = names-decides Y s w .holds t in
+        say _ (x .inspectObject r s p e) (y .inspectObject r s p e))
+        (by-test (isNull w)))
+        (by-test (isOdd w))
+
+    collect-same : (s : State) → E.Passes Y Ask.Collect s → M .step Ask.Collect s ≡ N .step Ask.Collect s
+    collect-same s p =
+        let ok : C.Sound Y s =
+        ⊎-elim (λ (e : sound Y s ≡ true). sound-decides Y s .holds e)
+        (λ (e : sound Y s ≡ false). absurd (p .1 .1 .0 (sound-decides Y s .fails e))) (by-test (sound Y s)) in
+        let a = m .two s ok in
+        let b = n .two s ok in
+        let z = no-choice Y s _ _ (a .L) (b .L) (a .leaves) (b .leaves) in
+        same-outcome (M .step Ask.Collect s) (N .step Ask.Collect s) (a .answers ∙ ap Says.Live (z .1) ∙ sym (b .answers)) (z .0)
+
+    passed-same : (c : Call) (s : State) → E.Passes Y c s → M .step c s ≡ N .step c s
+    passed-same Ask.Collect s p = collect-same s p
+    passed-same Ask.Check s p =
+        let x = m .effects in
+        let y = n .effects in
+        ⊎-elim
+        (λ (e : sound Y s ≡ true).
+        let h = sound-decides Y s .holds e in
+        both-say _ _ s Says.Sound (x .checkSound s p .1 h) (y .checkSound s p .1 h) (x .checkLeaves s p) (y .checkLeaves s p))
+        (λ (e : sound Y s ≡ false).
+        let h = sound-decides Y s .fails e in
+        both-say _ _ s Says.Unsound (x .checkUnsound s p .1 h) (y .checkUnsound s p .1 h) (x .checkLeaves s p) (y .checkLeaves s p))
+        (by-test (sound Y s))
+    passed-same (Ask.Allocate k f r) s p =
+        ⊎-elim
+        (λ (c : spare s < f + 1).
+        both-done _ _ (E.NewObject Y k f r (collected Y s)) (one-object k f r (collected Y s)) (m .effects .allocateThen k f r s p c)
+        (n .effects .allocateThen k f r s p c))
+        (λ (c : f + 1 ≤ spare s).
+        both-done _ _ (E.NewObject Y k f r s) (one-object k f r s) (m .effects .allocateNow k f r s p c) (n .effects .allocateNow k f r s p c))
+        (decide (spare s) (f + 1))
+    passed-same (Ask.SetInteger r v) s p =
+        both-done _ _ _ (one-root s r _) (m .effects .setInteger r v s p) (n .effects .setInteger r v s p)
+    passed-same (Ask.SetNull r) s p = both-done _ _ _ (one-root s r _) (m .effects .setNull r s p) (n .effects .setNull r s p)
+    passed-same (Ask.Copy from to) s p = both-done _ _ _ (one-root s to _) (m .effects .copy from to s p) (n .effects .copy from to s p)
+    passed-same (Ask.Load r f to) s p = both-done _ _ _ (one-root s to _) (m .effects .load r f to s p) (n .effects .load r f to s p)
+    passed-same (Ask.Store r f from) s p =
+        both-done _ _ _ (one-word s _ _) (m .effects .store r f from s p) (n .effects .store r f from s p)
+    passed-same (Ask.RawRead r f) s p =
+        both-say _ _ s _ (m .effects .rawRead r f s p) (n .effects .rawRead r f s p) (m .effects .rawReadLeaves r f s p)
+        (n .effects .rawReadLeaves r f s p)
+    passed-same (Ask.RawWrite r f w) s p =
+        both-done _ _ _ (one-word s _ _) (m .effects .rawWrite r f w s p) (n .effects .rawWrite r f w s p)
+    passed-same (Ask.Same r q) s p =
+        let x = m .effects in
+        let y = n .effects in
+        ⊎-elim
+        (λ (e : rootWord s r ≡ rootWord s q).
+        both-say _ _ s Says.Yes (x .sameYes r q s p .1 e) (y .sameYes r q s p .1 e) (x .sameLeaves r q s p) (y .sameLeaves r q s p))
+        (λ (e : rootWord s r ≡ rootWord s q → ⊥).
+        both-say _ _ s Says.No (x .sameNo r q s p .1 e) (y .sameNo r q s p .1 e) (x .sameLeaves r q s p) (y .sameLeaves r q s p))
+        (same? (rootWord s r) (rootWord s q))
+    passed-same (Ask.Inspect r) s p = inspect-same r s p
+
+    step-same : (c : Call) (s : State) → M .step c s ≡ N .step c s
+    step-same c s = go (step Y c s) refl (step-judged Y s c)
+      where
+        go : (o : Outcome State) → step Y c s ≡ o → Judged Y s (Row.rows Y c s) o → M .step c s ≡ N .step c s
+        go o e (by-row k f a l) = both-refuse c s k f (subst (λ z. Left Y s k (z .left)) (sym e) l)
+        go o e (by-none p q) = passed-same c s p
+
+    fresh-same : (s : State) → M .fresh s ≡ N .fresh s
+    fresh-same s =
+        ⊎-elim
+        (λ (e : badLength (length (s .heap)) ≡ true).
+        let f : D1.First (Row.freshRows s) Why.Shape = inl (length-decides s .holds e, refl) in
+        let a = m .one .fresh s .exactly Why.Shape .1 f in
+        let b = n .one .fresh s .exactly Why.Shape .1 f in
+        same-outcome (M .fresh s) (N .fresh s) (a ∙ sym b) (m .one .freshKeeps s Why.Shape a ∙ sym (n .one .freshKeeps s Why.Shape b)))
+        (λ (e : badLength (length (s .heap)) ≡ false).
+        let d = length-decides s .fails e in
+        both-done _ _ (E.Cleared s) (cleared-once s) (m .effects .fresh s d) (n .effects .fresh s d))
+        (by-test (badLength (length (s .heap))))
+
+  pub pinned : E.Pinned Y
+  pinned M N m n = record { step = step-same M N m n; fresh = fresh-same M N m n }
+
+  -- the library's machine is one of them
+  pub meets : E.Meets Y (machine Y)
+  meets = record { one = demand1 Y; two = demand2 Y; effects = effects Y }

@@ -1,0 +1,119 @@
+-- Wrong machines that meet the demands' older sentences, and the field of Effects that each of them breaks. Assumes nothing.
+use Prim.Native.Nat.{ℕ, _+_, _-_, _/_}
+use native.Mathlib.Omega.{arith}
+use mathlib.Core.Path.{_≡_, refl, sym, ap, _∙_}
+use mathlib.Core.Bool.{Bool, false, cond, not, _||_, _&&_}
+use mathlib.Core.List.{List, [], _∷_}
+use lib.Dec.{ltb, eqb}
+use lib.ListN.{length, getD, replicate}
+use Rattle.model.specs.declared.Half.the-variants.{A, B}
+use Rattle.model.specs.declared.Call.{Call}
+use Rattle.model.specs.declared.Call.the-variants as Ask
+use Rattle.model.specs.declared.Refusal.the-variants as Why
+use Rattle.model.specs.declared.Answer.{Answer}
+use Rattle.model.specs.declared.Answer.the-variants as Says
+use Rattle.model.specs.Answers.{Outcome, says, refuse, told}
+use Rattle.model.specs.Calls as Calls
+use Rattle.model.specs.Collection.{wordLeads, orderAt, live, rename, copied, collected}
+use Rattle.model.specs.Conditions as C
+use Rattle.model.specs.Discovery.{mem, visit, visits, packed, wordsBefore, found}
+use Rattle.model.specs.Effects as E
+use Rattle.model.specs.Headers.{tuple}
+use Rattle.model.specs.Sessions.{step, Machine}
+use Rattle.model.specs.Shape.{badLength, badShapeOf, badShape}
+use Rattle.model.specs.Soundness.{tiles, headersFrom, isValue, fieldsAreValues, sound}
+use Rattle.model.specs.Words.{State, lent, withHeap, withRecord, withFree, halfWords, firstOf}
+use Rattle.model.specs.Worked as Worked
+use Rattle.model.proofs.Conditions.{roots-decide}
+use Rattle.model.proofs.Deciding.{length-decides, shape-decides}
+use Rattle.model.proofs.Rivals.{changed, p5}
+
+-- a heap of good shape, in which nothing refuses a check
+check-passes : (s : State) → badShape s ≡ false → E.Passes tuple Ask.Check s
+check-passes s e = (shape-decides s .fails e, (roots-decide s [] .fails refl, tt))
+
+-- collect is 0, check is 1, and the others are neither
+abbrev which : Call → ℕ
+which Ask.Collect = 0
+which Ask.Check = 1
+which (Ask.Allocate k n r) = 2
+which (Ask.SetInteger r v) = 2
+which (Ask.SetNull r) = 2
+which (Ask.Copy from to) = 2
+which (Ask.Load r f to) = 2
+which (Ask.Store r f from) = 2
+which (Ask.RawRead r f) = 2
+which (Ask.RawWrite r f x) = 2
+which (Ask.Same r q) = 2
+which (Ask.Inspect r) = 2
+
+abbrev isRefusal : Answer → Bool
+isRefusal a = ltb 0 (told a .refusal)
+
+-- ---- restless: it collects once more after every call that is not refused and is no collect
+
+abbrev pub restless : Machine
+restless = changed (λ c s o. cond (eqb (which c) 0 || isRefusal (o .answer)) o (says (o .answer) (collected tuple (o .left))))
+
+pub restless-breaks-checkLeaves : E.Effects tuple restless → ⊥
+unfolding tuple step refuse Calls.check badShapeOf sound tiles headersFrom isValue fieldsAreValues mem copied
+restless-breaks-checkLeaves e =
+    let z : _≡_ {A = ℕ} 2 1 = ap (λ t. firstOf 1 (t .«record» .half)) (e .checkLeaves p5 (check-passes p5 refl)) in
+    omega arith
+
+-- ---- careless: on a heap that is not sound it answers "sound" and clears all words and roots
+
+abbrev pub careless : Machine
+careless = changed (λ c s o. cond (sound tuple s || isRefusal (o .answer)) o
+    (says Says.Sound (lent (replicate (length (s .heap)) 0) (replicate (length (s .roots)) 0) (s .«record»))))
+
+-- word 0 is 7, all else is as it should be
+abbrev seven : State
+seven = Worked.state A 1 (7 ∷ 0 ∷ 0 ∷ []) []
+
+seven-unsound : C.Sound tuple seven → ⊥
+seven-unsound h = let z : _≡_ {A = ℕ} 7 0 = h .reserved in omega arith
+
+pub careless-breaks-checkSound : E.Effects tuple careless → ⊥
+unfolding tuple step refuse Calls.check badShapeOf sound
+careless-breaks-checkSound e = seven-unsound (e .checkSound seven (check-passes seven refl) .0 refl)
+
+-- ---- always sound: its check says "sound" to every heap of good shape
+
+abbrev pub alwaysSound : Machine
+alwaysSound = changed (λ c s o. cond (eqb (which c) 1 && not (isRefusal (o .answer))) (says Says.Sound s) o)
+
+pub always-sound-breaks-checkSound : E.Effects tuple alwaysSound → ⊥
+unfolding tuple step refuse Calls.check badShapeOf sound
+always-sound-breaks-checkSound e = seven-unsound (e .checkSound seven (check-passes seven refl) .0 refl)
+
+-- ---- fresh leaves half B
+
+abbrev pub freshInB : Machine
+freshInB = record {
+  fresh = λ s. refuse (badLength (length (s .heap))) Why.Shape s
+      (says Says.Done (withFree B (halfWords (s .heap) + 1) (withHeap (replicate (length (s .heap)) 0) s)));
+  step = step tuple;
+}
+
+pub fresh-in-b-breaks-fresh : E.Effects tuple freshInB → ⊥
+unfolding refuse
+fresh-in-b-breaks-fresh e =
+    let z : _≡_ {A = ℕ} 2 1 = ap (λ q. firstOf 1 (q .half)) (e .fresh seven (length-decides seven .fails refl) .1 .newRecord) in
+    omega arith
+
+-- ---- fresh answers "no"
+
+abbrev pub freshSaysNo : Machine
+freshSaysNo = record {
+  fresh = λ s. refuse (badLength (length (s .heap))) Why.Shape s
+      (says Says.No (withRecord Calls.freshRecord (withHeap (replicate (length (s .heap)) 0) s)));
+  step = step tuple;
+}
+
+no-done : Says.No ≡ Says.Done → ⊥
+no-done e = let z : _≡_ {A = ℕ} 0 1 = cc in omega arith
+
+pub fresh-says-no-breaks-fresh : E.Effects tuple freshSaysNo → ⊥
+unfolding refuse
+fresh-says-no-breaks-fresh e = no-done (e .fresh seven (length-decides seven .fails refl) .0)

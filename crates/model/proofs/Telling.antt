@@ -1,0 +1,123 @@
+-- Answers are read back from their numbers, so that equal numbers are equal answers. Assumes nothing.
+use Prim.Native.Nat.{ℕ}
+use native.Mathlib.Omega.{arith}
+use mathlib.Core.Path.{_≡_, refl, sym, ap, _∙_}
+use mathlib.Core.Bool.{Bool, cond}
+use mathlib.Core.List.{List, [], _∷_}
+use lib.Dec.{eqb}
+use Rattle.model.specs.declared.Kind.{Kind}
+use Rattle.model.specs.declared.Kind.the-variants.{Traced, Untraced}
+use Rattle.model.specs.declared.Refusal.{Refusal}
+use Rattle.model.specs.declared.Refusal.the-variants as Why
+use Rattle.model.specs.declared.Answer.{Answer}
+use Rattle.model.specs.declared.Answer.the-variants as Says
+use Rattle.model.specs.declared.Call.{Call}
+use Rattle.model.specs.declared.Call.the-variants as Ask
+use Rattle.model.specs.declared.Told.{Told}
+use Rattle.model.specs.Admission.{onRoots}
+use Rattle.model.specs.Answers.{Outcome, says, refuse, number, told}
+use Rattle.model.specs.Calls as Calls
+use Rattle.model.specs.Calls.{onField}
+use Rattle.model.specs.Changes.{rootWord, fits}
+use Rattle.model.specs.Headers.{Layout}
+use Rattle.model.specs.Laws as Law
+use Rattle.model.specs.Sessions.{step, machine}
+use Rattle.model.specs.Soundness.{sound}
+use Rattle.model.specs.Values.{isOdd, isNull}
+use Rattle.model.specs.Words.{State}
+use Rattle.model.proofs.Tests.{cond-holds}
+
+-- the refusal of a number
+abbrev refusalOf : ℕ → Refusal
+refusalOf n =
+    cond (eqb n 1) Why.Shape (cond (eqb n 2) Why.Root (cond (eqb n 3) Why.Count (cond (eqb n 4) Why.Range (cond (eqb n 5) Why.Object
+    (cond (eqb n 6) Why.Kind (cond (eqb n 7) Why.Field (cond (eqb n 8) Why.Damaged Why.Room)))))))
+
+-- what the numbers of a call say, where it is not refused
+abbrev own : Call → Told → Answer
+own Ask.Collect t = Says.Live (t .value)
+own Ask.Check t = cond (eqb (t .value) 1) Says.Sound Says.Unsound
+own (Ask.Allocate k n r) t = Says.Done
+own (Ask.SetInteger r v) t = Says.Done
+own (Ask.SetNull r) t = Says.Done
+own (Ask.Copy from to) t = Says.Done
+own (Ask.Load r f to) t = Says.Done
+own (Ask.Store r f from) t = Says.Done
+own (Ask.RawRead r f) t = Says.Number (t .value)
+own (Ask.RawWrite r f x) t = Says.Done
+own (Ask.Same r q) t = cond (eqb (t .value) 1) Says.Yes Says.No
+own (Ask.Inspect r) t =
+    cond (eqb (t .holds) 0) Says.Null (cond (eqb (t .holds) 1) (Says.Integer (t .integer))
+    (Says.Object (cond (eqb (t .holds) 2) Traced Untraced) (t .value)))
+
+abbrev heard : Call → Told → Answer
+heard c t = cond (eqb (t .refusal) 0) (own c t) (Says.Refused (refusalOf (t .refusal)))
+
+-- an answer of the call c is read back
+data Back (c : Call) : Outcome State → Type 0 where
+  back : {o : Outcome State} → heard c (told (o .answer)) ≡ o .answer → Back c o
+
+refused-back : (c : Call) (k : Refusal) → heard c (told (Says.Refused k)) ≡ Says.Refused k
+refused-back c Why.Shape = refl
+refused-back c Why.Root = refl
+refused-back c Why.Count = refl
+refused-back c Why.Range = refl
+refused-back c Why.Object = refl
+refused-back c Why.Kind = refl
+refused-back c Why.Field = refl
+refused-back c Why.Damaged = refl
+refused-back c Why.Room = refl
+
+object-back : (r n : ℕ) (k : Kind) → heard (Ask.Inspect r) (told (Says.Object k n)) ≡ Says.Object k n
+object-back r n Traced = refl
+object-back r n Untraced = refl
+
+module _ (Y : Layout) (s : State) where
+  refuse-back : (c : Call) (b : Bool) (k : Refusal) (t : State) (o : Outcome State) → Back c o → Back c (refuse b k t o)
+  unfolding refuse
+  refuse-back c b k t o h = cond-holds (Back c) b _ o (λ e. back (refused-back c k)) (λ e. h)
+
+  on-roots : (c : Call) (named : List ℕ) (o : Outcome State) → Back c o → Back c (onRoots named s o)
+  on-roots c named o h = refuse-back c _ Why.Shape s _ (refuse-back c _ Why.Root s o h)
+
+  on-field : (c : Call) (k : Kind) (r f : ℕ) (o : Outcome State) → Back c o → Back c (onField Y k (rootWord s r) f s o)
+  on-field c k r f o h = refuse-back c _ Why.Object s _ (refuse-back c _ Why.Kind s _ (refuse-back c _ Why.Field s o h))
+
+  either : (c : Call) (b : Bool) (x y : Answer) → heard c (told x) ≡ x → heard c (told y) ≡ y → Back c (says (cond b x y) s)
+  either c b x y e f = back (cond-holds (λ a. heard c (told a) ≡ a) b x y (λ t. e) (λ t. f))
+
+  step-back : (c : Call) → Back c (step Y c s)
+  unfolding step Calls.collect Calls.check Calls.allocate Calls.setInteger Calls.setNull Calls.copy Calls.load Calls.store
+      Calls.rawRead Calls.rawWrite Calls.same Calls.inspect
+  step-back Ask.Collect = on-roots Ask.Collect [] _ (refuse-back Ask.Collect _ Why.Damaged s _ (back refl))
+  step-back Ask.Check = on-roots Ask.Check [] _ (either Ask.Check (sound Y s) Says.Sound Says.Unsound refl refl)
+  step-back (Ask.Allocate k n r) =
+      on-roots (Ask.Allocate k n r) (r ∷ []) _
+      (refuse-back (Ask.Allocate k n r) _ Why.Count s _
+      (cond-holds (Back (Ask.Allocate k n r)) (fits n s) _ _ (λ e. back refl)
+      (λ e. refuse-back (Ask.Allocate k n r) _ Why.Damaged s _ (refuse-back (Ask.Allocate k n r) _ Why.Room _ _ (back refl)))))
+  step-back (Ask.SetInteger r v) =
+      on-roots (Ask.SetInteger r v) (r ∷ []) _ (refuse-back (Ask.SetInteger r v) _ Why.Range s _ (back refl))
+  step-back (Ask.SetNull r) = on-roots (Ask.SetNull r) (r ∷ []) _ (back refl)
+  step-back (Ask.Copy from to) = on-roots (Ask.Copy from to) (from ∷ to ∷ []) _ (back refl)
+  step-back (Ask.Load r f to) = on-roots (Ask.Load r f to) (r ∷ to ∷ []) _ (on-field (Ask.Load r f to) Traced r f _ (back refl))
+  step-back (Ask.Store r f from) =
+      on-roots (Ask.Store r f from) (r ∷ from ∷ []) _ (on-field (Ask.Store r f from) Traced r f _ (back refl))
+  step-back (Ask.RawRead r f) = on-roots (Ask.RawRead r f) (r ∷ []) _ (on-field (Ask.RawRead r f) Untraced r f _ (back refl))
+  step-back (Ask.RawWrite r f x) =
+      on-roots (Ask.RawWrite r f x) (r ∷ []) _ (on-field (Ask.RawWrite r f x) Untraced r f _ (back refl))
+  step-back (Ask.Same r q) = on-roots (Ask.Same r q) (r ∷ q ∷ []) _ (either (Ask.Same r q) (eqb (rootWord s r) (rootWord s q)) Says.Yes Says.No refl refl)
+  step-back (Ask.Inspect r) =
+      on-roots (Ask.Inspect r) (r ∷ []) _
+      (cond-holds (Back (Ask.Inspect r)) (isOdd (rootWord s r)) _ _ (λ e. back refl) (λ e.
+      cond-holds (Back (Ask.Inspect r)) (isNull (rootWord s r)) _ _ (λ f. back refl) (λ f.
+      refuse-back (Ask.Inspect r) _ Why.Object s _ (back (object-back r _ _)))))
+
+  pub read-back : (c : Call) → heard c (told (step Y c s .answer)) ≡ step Y c s .answer
+  read-back c = go (step Y c s) (step-back c)
+    where
+      go : (o : Outcome State) → Back c o → heard c (told (o .answer)) ≡ o .answer
+      go o (back e) = e
+
+pub told-apart : (Y : Layout) → Law.ToldApart (machine Y)
+told-apart Y c s s′ e = sym (read-back Y s c) ∙ ap (heard c) e ∙ read-back Y s′ c

@@ -1,0 +1,140 @@
+-- What each call does where nothing refuses it: a field a sentence of document 01's "The calls", of any machine. What a refused call
+-- leaves is demand 1's, what collect leaves demand 2's. The three together leave no machine a choice: `Pinned`.
+use Prim.Native.Nat.{ℕ, _+_, _%_, _≤_, _<_}
+use mathlib.Core.Path.{_≡_}
+use mathlib.Core.Logic.{_⊎_, _↔_}
+use lib.IntN.{ℤ}
+use lib.ListN.{length}
+use Rattle.model.specs.declared.Kind.{Kind}
+use Rattle.model.specs.declared.Answer.the-variants as Says
+use Rattle.model.specs.declared.Call.{Call}
+use Rattle.model.specs.declared.Call.the-variants as Ask
+use Rattle.model.specs.Words.{State, at, free}
+use Rattle.model.specs.Values.{tag, untag}
+use Rattle.model.specs.Headers.{Layout}
+use Rattle.model.specs.Objects.{address, index, kind, fieldCount, fieldIndex}
+use Rattle.model.specs.Collection.{collected}
+use Rattle.model.specs.Answers.{Outcome}
+use Rattle.model.specs.Changes.{rootWord, spare}
+use Rattle.model.specs.Calls.{freshRecord}
+use Rattle.model.specs.Sessions.{Machine}
+use Rattle.model.specs.Conditions.{BadLength, Names, Sound}
+use Rattle.model.specs.Refusals.{CalledFor, rows}
+use Rattle.model.specs.Demand1.{None, Demand1}
+use Rattle.model.specs.Demand2.{Demand2}
+
+-- ---- changes, word by word
+
+-- one root changes, to the word w
+pub record RootChanged (s : State) (r w : ℕ) (t : State) : Type 0 where
+  pub word : rootWord t r ≡ w
+  pub others : (q : ℕ) → (q ≡ r → ⊥) → rootWord t q ≡ rootWord s q
+  pub count : length (t .roots) ≡ length (s .roots)
+  pub sameHeap : t .heap ≡ s .heap
+  pub sameRecord : t .«record» ≡ s .«record»
+
+-- one word of the heap changes, to w
+pub record WordChanged (s : State) (i w : ℕ) (t : State) : Type 0 where
+  pub word : at (t .heap) i ≡ w
+  pub others : (j : ℕ) → (j ≡ i → ⊥) → at (t .heap) j ≡ at (s .heap) j
+  pub sameLength : length (t .heap) ≡ length (s .heap)
+  pub sameRoots : t .roots ≡ s .roots
+  pub sameRecord : t .«record» ≡ s .«record»
+
+-- a header and n zeros stand at the free index of s, and root r has got the address
+pub record NewObject (Y : Layout) (k : Kind) (n r : ℕ) (s t : State) : Type 0 where
+  pub header : at (t .heap) (free s) ≡ Y .header k n
+  pub zeros : (f : ℕ) → f < n → at (t .heap) (fieldIndex (free s) f) ≡ 0
+  pub others : (i : ℕ) → (i < free s) ⊎ (free s + (n + 1) ≤ i) → at (t .heap) i ≡ at (s .heap) i
+  pub sameLength : length (t .heap) ≡ length (s .heap)
+  pub root : rootWord t r ≡ address Y (free s)
+  pub otherRoots : (q : ℕ) → (q ≡ r → ⊥) → rootWord t q ≡ rootWord s q
+  pub rootCount : length (t .roots) ≡ length (s .roots)
+  pub sameHalf : t .«record» .half ≡ s .«record» .half
+  pub freeIs : free t ≡ free s + (n + 1)
+
+-- all heap words are 0; half A, free index 1; the roots as they were
+pub record Cleared (s t : State) : Type 0 where
+  pub zeros : (i : ℕ) → at (t .heap) i ≡ 0
+  pub sameLength : length (t .heap) ≡ length (s .heap)
+  pub sameRoots : t .roots ≡ s .roots
+  pub newRecord : t .«record» ≡ freshRecord
+
+-- ---- the calls
+
+-- "done", and what is left
+abbrev pub Done : Outcome State → (State → Type 0) → Type 0
+Done o P = (o .answer ≡ Says.Done) × P (o .left)
+
+-- everything is as it was
+abbrev pub Leaves : Outcome State → State → Type 0
+Leaves o s = o .left ≡ s
+
+module _ (Y : Layout) where
+  -- nothing refuses the call
+  abbrev pub Passes : Call → State → Type 0
+  Passes c s = None (rows Y c s)
+
+  -- field f of the object that root r names
+  abbrev pub fieldAt : State → ℕ → ℕ → ℕ
+  fieldAt s r f = fieldIndex (index Y (rootWord s r)) f
+
+  pub record Effects (M : Machine) : Type 0 where
+    -- fresh clears all heap words; half A, free index 1
+    pub fresh : (s : State) → (BadLength s → ⊥) → Done (M .fresh s) (Cleared s)
+    -- check: sound or not; no word differs afterwards
+    pub checkSound : (s : State) → Passes Ask.Check s → (M .step Ask.Check s .answer ≡ Says.Sound) ↔ Sound Y s
+    pub checkUnsound : (s : State) → Passes Ask.Check s → (M .step Ask.Check s .answer ≡ Says.Unsound) ↔ (Sound Y s → ⊥)
+    pub checkLeaves : (s : State) → Passes Ask.Check s → Leaves (M .step Ask.Check s) s
+    -- an allocation that fits places the object; one that does not collects first and tries again
+    pub allocateNow : (k : Kind) (n r : ℕ) (s : State) → Passes (Ask.Allocate k n r) s → n + 1 ≤ spare s
+        → Done (M .step (Ask.Allocate k n r) s) (NewObject Y k n r s)
+    pub allocateThen : (k : Kind) (n r : ℕ) (s : State) → Passes (Ask.Allocate k n r) s → CalledFor n s
+        → Done (M .step (Ask.Allocate k n r) s) (NewObject Y k n r (collected Y s))
+    -- set root to an integer; set root to null; copy root to root
+    pub setInteger : (r : ℕ) (v : ℤ) (s : State) → Passes (Ask.SetInteger r v) s
+        → Done (M .step (Ask.SetInteger r v) s) (RootChanged s r (tag v))
+    pub setNull : (r : ℕ) (s : State) → Passes (Ask.SetNull r) s → Done (M .step (Ask.SetNull r) s) (RootChanged s r 0)
+    pub copy : (from to : ℕ) (s : State) → Passes (Ask.Copy from to) s
+        → Done (M .step (Ask.Copy from to) s) (RootChanged s to (rootWord s from))
+    -- load: field of a traced object into a root; store: a root's word into a field of a traced object
+    pub load : (r f to : ℕ) (s : State) → Passes (Ask.Load r f to) s
+        → Done (M .step (Ask.Load r f to) s) (RootChanged s to (at (s .heap) (fieldAt s r f)))
+    pub store : (r f from : ℕ) (s : State) → Passes (Ask.Store r f from) s
+        → Done (M .step (Ask.Store r f from) s) (WordChanged s (fieldAt s r f) (rootWord s from))
+    -- raw read and raw write: the same for an untraced object and a plain number
+    pub rawRead : (r f : ℕ) (s : State) → Passes (Ask.RawRead r f) s
+        → M .step (Ask.RawRead r f) s .answer ≡ Says.Number (at (s .heap) (fieldAt s r f))
+    pub rawReadLeaves : (r f : ℕ) (s : State) → Passes (Ask.RawRead r f) s → Leaves (M .step (Ask.RawRead r f) s) s
+    pub rawWrite : (r f x : ℕ) (s : State) → Passes (Ask.RawWrite r f x) s
+        → Done (M .step (Ask.RawWrite r f x) s) (WordChanged s (fieldAt s r f) x)
+    -- same: yes exactly when two roots hold equal words
+    pub sameYes : (r q : ℕ) (s : State) → Passes (Ask.Same r q) s
+        → (M .step (Ask.Same r q) s .answer ≡ Says.Yes) ↔ (rootWord s r ≡ rootWord s q)
+    pub sameNo : (r q : ℕ) (s : State) → Passes (Ask.Same r q) s
+        → (M .step (Ask.Same r q) s .answer ≡ Says.No) ↔ (rootWord s r ≡ rootWord s q → ⊥)
+    pub sameLeaves : (r q : ℕ) (s : State) → Passes (Ask.Same r q) s → Leaves (M .step (Ask.Same r q) s) s
+    -- inspect: a root holds null, an integer with its value, or an object, traced or untraced, with its field count
+    pub inspectNull : (r : ℕ) (s : State) → Passes (Ask.Inspect r) s → rootWord s r ≡ 0
+        → M .step (Ask.Inspect r) s .answer ≡ Says.Null
+    pub inspectInteger : (r : ℕ) (s : State) → Passes (Ask.Inspect r) s → rootWord s r % 2 ≡ 1
+        → M .step (Ask.Inspect r) s .answer ≡ Says.Integer (untag (rootWord s r))
+    pub inspectObject : (r : ℕ) (s : State) → Passes (Ask.Inspect r) s → Names Y s (rootWord s r)
+        → M .step (Ask.Inspect r) s .answer
+        ≡ Says.Object (kind Y (s .heap) (index Y (rootWord s r))) (fieldCount Y (s .heap) (index Y (rootWord s r)))
+    pub inspectLeaves : (r : ℕ) (s : State) → Passes (Ask.Inspect r) s → Leaves (M .step (Ask.Inspect r) s) s
+
+  -- ---- no machine has a choice
+
+  pub record Meets (M : Machine) : Type 0 where
+    pub one : Demand1 Y M
+    pub two : Demand2 Y M
+    pub effects : Effects M
+
+  -- two machines that meet demand 1, demand 2 and these sentences answer every call alike and leave the same
+  pub record Same (M N : Machine) : Type 0 where
+    pub step : (c : Call) (s : State) → M .step c s ≡ N .step c s
+    pub fresh : (s : State) → M .fresh s ≡ N .fresh s
+
+  abbrev pub Pinned : Type 0
+  Pinned = (M N : Machine) → Meets M → Meets N → Same M N
