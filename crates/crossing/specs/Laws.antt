@@ -4,11 +4,16 @@ use mathlib.Core.Path.{_≡_}
 use mathlib.Core.Bool.{false}
 use mathlib.Core.List.{List}
 use Rattle.model.specs.declared.Record.{Record}
+use Rattle.model.specs.declared.Call.{Call}
+use Rattle.model.specs.declared.Call.the-variants as Ask
+use Rattle.model.specs.declared.Place.{Place}
 use Rattle.model.specs.Words.{State}
 use Rattle.model.specs.Headers.{Layout}
+use Rattle.model.specs.Answers.{told}
 use Rattle.model.specs.Window.{window, windowWord}
+use Rattle.model.specs.Sessions.{step}
 use Rattle.crossing.specs.declared.CRecord.{CRecord}
-use Rattle.crossing.specs.Numbers.{Given, given, noHalf, numbersOf, recordOf, windowNumbers, wordAt}
+use Rattle.crossing.specs.Numbers.{Given, given, noHalf, numbersOf, recordOf, result, collected, answer, seen, windowNumbers, wordAt}
 
 -- a promise is an equation `given .. ≡ g`: any two outcomes that it allows are equal
 abbrev pub Settles : Type 1
@@ -23,3 +28,19 @@ pub record RecordLaw : Type 0 where
 -- the word of a window that was opened on this heap is the one that the model's window shows
 abbrev pub WordLaw : Layout → Type 0
 WordLaw Y = (r f : ℕ) (s : State) → wordAt (s .heap) (windowNumbers (window Y r s)) f ≡ windowWord (s .heap) (window Y r s) f
+
+-- answers can be told apart in what C gets: two answers of one call that are returned alike are equal, whatever the records.
+-- Inspect has a struct of its own; of the others refusal and value are enough.
+pub record AnswersApart (Y : Layout) : Type 0 where
+  pub inResult : (c : Call) (s s′ : State) (q q′ : CRecord) → ((r : ℕ) → c ≡ Ask.Inspect r → ⊥)
+      → result (told (step Y c s .answer)) q ≡ result (told (step Y c s′ .answer)) q′ → step Y c s .answer ≡ step Y c s′ .answer
+  pub inAnswer : (c : Call) (s s′ : State) → ((r : ℕ) → c ≡ Ask.Inspect r → ⊥)
+      → answer (told (step Y c s .answer)) ≡ answer (told (step Y c s′ .answer)) → step Y c s .answer ≡ step Y c s′ .answer
+  pub inCollected : (s s′ : State) (q q′ : CRecord)
+      → collected (told (step Y Ask.Collect s .answer)) q ≡ collected (told (step Y Ask.Collect s′ .answer)) q′
+      → step Y Ask.Collect s .answer ≡ step Y Ask.Collect s′ .answer
+  pub inSeen : (r : ℕ) (s s′ : State)
+      → seen (told (step Y (Ask.Inspect r) s .answer)) ≡ seen (told (step Y (Ask.Inspect r) s′ .answer))
+      → step Y (Ask.Inspect r) s .answer ≡ step Y (Ask.Inspect r) s′ .answer
+  -- and so can the places of windows
+  pub inWindow : (p p′ : Place) → windowNumbers p ≡ windowNumbers p′ → p ≡ p′

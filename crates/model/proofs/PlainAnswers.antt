@@ -17,23 +17,24 @@ use Rattle.model.proofs.Tests.{cond-holds}
 pub refused-same : (j k : Refusal) → Says.Refused j ≡ Says.Refused k → j ≡ k
 refused-same j k e = cc
 
-numbered : (k : Refusal) → number k ≡ 0 → ⊥
-numbered Why.Shape e = omega arith
-numbered Why.Root e = omega arith
-numbered Why.Count e = omega arith
-numbered Why.Range e = omega arith
-numbered Why.Object e = omega arith
-numbered Why.Kind e = omega arith
-numbered Why.Field e = omega arith
-numbered Why.Damaged e = omega arith
-numbered Why.Room e = omega arith
+-- no refusal has the number 0
+pub no-zero : (k : Refusal) → number k ≡ 0 → ⊥
+no-zero Why.Shape e = omega arith
+no-zero Why.Root e = omega arith
+no-zero Why.Count e = omega arith
+no-zero Why.Range e = omega arith
+no-zero Why.Object e = omega arith
+no-zero Why.Kind e = omega arith
+no-zero Why.Field e = omega arith
+no-zero Why.Damaged e = omega arith
+no-zero Why.Room e = omega arith
 
 -- an answer that is no refusal: one whose refusal is told as 0
 abbrev pub Plainly : Answer → Type 0
 Plainly a = (k : Refusal) → a ≡ Says.Refused k → ⊥
 
 pub plainly : (a : Answer) → told a .refusal ≡ 0 → Plainly a
-plainly a e k q = numbered k (sym (ap (λ (x : Answer). told x .refusal) q) ∙ e)
+plainly a e k q = no-zero k (sym (ap (λ (x : Answer). told x .refusal) q) ∙ e)
 
 pub done-plainly : Plainly Says.Done
 done-plainly = plainly Says.Done refl

@@ -5,6 +5,7 @@ use mathlib.Core.Path.{_≡_, refl, sym, ap, _∙_}
 use mathlib.Core.Bool.{Bool, cond}
 use mathlib.Core.List.{List, [], _∷_}
 use lib.Dec.{eqb}
+use borrow.Author.Tests.{ne-eqb}
 use Rattle.model.specs.declared.Kind.{Kind}
 use Rattle.model.specs.declared.Kind.the-variants.{Traced, Untraced}
 use Rattle.model.specs.declared.Refusal.{Refusal}
@@ -15,7 +16,7 @@ use Rattle.model.specs.declared.Call.{Call}
 use Rattle.model.specs.declared.Call.the-variants as Ask
 use Rattle.model.specs.declared.Told.{Told}
 use Rattle.model.specs.Admission.{onRoots}
-use Rattle.model.specs.Answers.{Outcome, says, refuse, number, told}
+use Rattle.model.specs.Answers.{Outcome, says, refuse, number, tells, told}
 use Rattle.model.specs.Calls as Calls
 use Rattle.model.specs.Calls.{onField}
 use Rattle.model.specs.Changes.{rootWord, fits}
@@ -25,16 +26,17 @@ use Rattle.model.specs.Sessions.{step, machine}
 use Rattle.model.specs.Soundness.{sound}
 use Rattle.model.specs.Values.{isOdd, isNull}
 use Rattle.model.specs.Words.{State}
+use Rattle.model.proofs.PlainAnswers.{no-zero}
 use Rattle.model.proofs.Tests.{cond-holds}
 
 -- the refusal of a number
-abbrev refusalOf : ℕ → Refusal
+abbrev pub refusalOf : ℕ → Refusal
 refusalOf n =
     cond (eqb n 1) Why.Shape (cond (eqb n 2) Why.Root (cond (eqb n 3) Why.Count (cond (eqb n 4) Why.Range (cond (eqb n 5) Why.Object
     (cond (eqb n 6) Why.Kind (cond (eqb n 7) Why.Field (cond (eqb n 8) Why.Damaged Why.Room)))))))
 
 -- what the numbers of a call say, where it is not refused
-abbrev own : Call → Told → Answer
+abbrev pub own : Call → Told → Answer
 own Ask.Collect t = Says.Live (t .value)
 own Ask.Check t = cond (eqb (t .value) 1) Says.Sound Says.Unsound
 own (Ask.Allocate k n r) t = Says.Done
@@ -50,23 +52,46 @@ own (Ask.Inspect r) t =
     cond (eqb (t .holds) 0) Says.Null (cond (eqb (t .holds) 1) (Says.Integer (t .integer))
     (Says.Object (cond (eqb (t .holds) 2) Traced Untraced) (t .value)))
 
-abbrev heard : Call → Told → Answer
+abbrev pub heard : Call → Told → Answer
 heard c t = cond (eqb (t .refusal) 0) (own c t) (Says.Refused (refusalOf (t .refusal)))
+
+-- refusal and value are enough, but for inspect
+pub plain-heard : (c : Call) → ((r : ℕ) → c ≡ Ask.Inspect r → ⊥) → (t : Told) → heard c t ≡ heard c (tells (t .refusal) 0 (t .value))
+plain-heard Ask.Collect n t = refl
+plain-heard Ask.Check n t = refl
+plain-heard (Ask.Allocate k m r) n t = refl
+plain-heard (Ask.SetInteger r v) n t = refl
+plain-heard (Ask.SetNull r) n t = refl
+plain-heard (Ask.Copy from to) n t = refl
+plain-heard (Ask.Load r f to) n t = refl
+plain-heard (Ask.Store r f from) n t = refl
+plain-heard (Ask.RawRead r f) n t = refl
+plain-heard (Ask.RawWrite r f x) n t = refl
+plain-heard (Ask.Same r q) n t = refl
+plain-heard (Ask.Inspect r) n t = absurd (n r refl)
+
+-- a number is that of one refusal
+numbered : (k : Refusal) → refusalOf (number k) ≡ k
+numbered Why.Shape = refl
+numbered Why.Root = refl
+numbered Why.Count = refl
+numbered Why.Range = refl
+numbered Why.Object = refl
+numbered Why.Kind = refl
+numbered Why.Field = refl
+numbered Why.Damaged = refl
+numbered Why.Room = refl
+
+pub numbers-apart : (j k : Refusal) → number j ≡ number k → j ≡ k
+numbers-apart j k e = sym (numbered j) ∙ ap refusalOf e ∙ numbered k
 
 -- an answer of the call c is read back
 data Back (c : Call) : Outcome State → Type 0 where
   back : {o : Outcome State} → heard c (told (o .answer)) ≡ o .answer → Back c o
 
 refused-back : (c : Call) (k : Refusal) → heard c (told (Says.Refused k)) ≡ Says.Refused k
-refused-back c Why.Shape = refl
-refused-back c Why.Root = refl
-refused-back c Why.Count = refl
-refused-back c Why.Range = refl
-refused-back c Why.Object = refl
-refused-back c Why.Kind = refl
-refused-back c Why.Field = refl
-refused-back c Why.Damaged = refl
-refused-back c Why.Room = refl
+refused-back c k =
+    rw (ne-eqb (number k) 0 (no-zero k)) (ap Says.Refused (numbered k))
 
 object-back : (r n : ℕ) (k : Kind) → heard (Ask.Inspect r) (told (Says.Object k n)) ≡ Says.Object k n
 object-back r n Traced = refl
