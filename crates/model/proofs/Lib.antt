@@ -60,5 +60,6 @@ pub mod Looks
 pub mod Telling
 pub mod Rivals
 pub mod RivalsOfEffects
+pub mod RivalsOfLooks
 pub mod Walks
 pub mod Middle

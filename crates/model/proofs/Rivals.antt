@@ -12,11 +12,12 @@ use Rattle.model.specs.declared.Half.the-variants.{A}
 use Rattle.model.specs.declared.Kind.the-variants.{Traced}
 use Rattle.model.specs.declared.Call.{Call}
 use Rattle.model.specs.declared.Refusal.the-variants as Why
+use Rattle.model.specs.declared.Answer.{Answer}
 use Rattle.model.specs.declared.Answer.the-variants as Says
 use Rattle.model.specs.declared.Call.the-variants as Ask
 use Rattle.model.specs.Limits.{maxRoots}
 use Rattle.model.specs.Calls as Calls
-use Rattle.model.specs.Answers.{Outcome, says, refuse}
+use Rattle.model.specs.Answers.{Outcome, says, refuse, told}
 use Rattle.model.specs.Calls.{fresh, freshRecord}
 use Rattle.model.specs.Changes.{fits, placed}
 use Rattle.model.specs.Collection.{cells, wordLeads, cellLeads, orderAt, live, rename, copied}
@@ -43,6 +44,41 @@ use Rattle.model.proofs.Values.{some-same}
 -- a machine that changes what the library's comes to
 abbrev pub changed : (Call → State → Outcome State → Outcome State) → Machine
 changed f = record { fresh = fresh; step = λ c s. f c s (step tuple c s) }
+
+-- calls told apart by what a wrong machine does with them
+pub data Sort : Type 0 where
+  collects : Sort
+  checks : Sort
+  compares : Sort
+  loads : Sort
+  others : Sort
+
+abbrev pub sort : Call → Sort
+sort Ask.Collect = collects
+sort Ask.Check = checks
+sort (Ask.Same r q) = compares
+sort (Ask.Load r f to) = loads
+sort (Ask.Allocate k n r) = others
+sort (Ask.SetInteger r v) = others
+sort (Ask.SetNull r) = others
+sort (Ask.Copy from to) = others
+sort (Ask.Store r f from) = others
+sort (Ask.RawRead r f) = others
+sort (Ask.RawWrite r f x) = others
+sort (Ask.Inspect r) = others
+
+abbrev number : Sort → ℕ
+number collects = 0
+number checks = 1
+number compares = 2
+number loads = 3
+number others = 4
+
+abbrev pub is : Sort → Call → Bool
+is k c = eqb (number (sort c)) (number k)
+
+abbrev pub isRefusal : Answer → Bool
+isRefusal a = ltb 0 (told a .refusal)
 
 -- ---- demand 1
 

@@ -26,34 +26,16 @@ use Rattle.model.specs.Words.{State, lent, withHeap, withRecord, withFre
 use Rattle.model.specs.Worked as Worked
 use Rattle.model.proofs.Conditions.{roots-decide}
 use Rattle.model.proofs.Deciding.{length-decides, shape-decides}
-use Rattle.model.proofs.Rivals.{changed, p5}
+use Rattle.model.proofs.Rivals.{changed, Sort, collects, checks, is, isRefusal, p5}
 
 -- a heap of good shape, in which nothing refuses a check
 check-passes : (s : State) → badShape s ≡ false → E.Passes tuple Ask.Check s
 check-passes s e = (shape-decides s .fails e, (roots-decide s [] .fails refl, tt))
 
--- collect is 0, check is 1, and the others are neither
-abbrev which : Call → ℕ
-which Ask.Collect = 0
-which Ask.Check = 1
-which (Ask.Allocate k n r) = 2
-which (Ask.SetInteger r v) = 2
-which (Ask.SetNull r) = 2
-which (Ask.Copy from to) = 2
-which (Ask.Load r f to) = 2
-which (Ask.Store r f from) = 2
-which (Ask.RawRead r f) = 2
-which (Ask.RawWrite r f x) = 2
-which (Ask.Same r q) = 2
-which (Ask.Inspect r) = 2
-
-abbrev isRefusal : Answer → Bool
-isRefusal a = ltb 0 (told a .refusal)
-
 -- ---- restless: it collects once more after every call that is not refused and is no collect
 
 abbrev pub restless : Machine
-restless = changed (λ c s o. cond (eqb (which c) 0 || isRefusal (o .answer)) o (says (o .answer) (collected tuple (o .left))))
+restless = changed (λ c s o. cond (is collects c || isRefusal (o .answer)) o (says (o .answer) (collected tuple (o .left))))
 
 pub restless-breaks-checkLeaves : E.Effects tuple restless → ⊥
 unfolding tuple step refuse Calls.check badShapeOf sound tiles headersFrom isValue fieldsAreValues mem copied
@@ -81,7 +63,7 @@ careless-breaks-checkSound e = seven-unsound (e .checkSound seven (check-passes 
 -- ---- always sound: its check says "sound" to every heap of good shape
 
 abbrev pub alwaysSound : Machine
-alwaysSound = changed (λ c s o. cond (eqb (which c) 1 && not (isRefusal (o .answer))) (says Says.Sound s) o)
+alwaysSound = changed (λ c s o. cond (is checks c && not (isRefusal (o .answer))) (says Says.Sound s) o)
 
 pub always-sound-breaks-checkSound : E.Effects tuple alwaysSound → ⊥
 unfolding tuple step refuse Calls.check badShapeOf sound

@@ -1,0 +1,121 @@
+-- Wrong machines that look at more than they may or cannot be told apart, and the sentence that each of them breaks. Assumes nothing.
+use Prim.Native.Nat.{ℕ, zero, suc, _+_, _%_, _<_}
+use native.Mathlib.Omega.{arith}
+use mathlib.Core.Path.{_≡_, refl, sym, ap, _∙_}
+use mathlib.Core.Logic.{_⊎_, inl, inr, ⊎-elim}
+use mathlib.Core.Bool.{Bool, true, false, cond, _&&_}
+use mathlib.Core.List.{List, [], _∷_, List·Memᴰ, List·Memᴰ·eq-of-singleton}
+use lib.Dec.{eqb}
+use lib.IntN.{ℤ}
+use lib.ListN.{length, replicate}
+use Rattle.model.specs.declared.Half.the-variants.{A}
+use Rattle.model.specs.declared.Kind.{Kind}
+use Rattle.model.specs.declared.Kind.the-variants.{Traced, Untraced}
+use Rattle.model.specs.declared.Call.{Call}
+use Rattle.model.specs.declared.Call.the-variants as Ask
+use Rattle.model.specs.declared.Refusal.the-variants as Why
+use Rattle.model.specs.declared.Answer.the-variants as Says
+use Rattle.model.specs.Answers.{Outcome, says, refuse, number, told}
+use Rattle.model.specs.Calls as Calls
+use Rattle.model.specs.Changes.{withRoot, rootWord}
+use Rattle.model.specs.Collection.{collected}
+use Rattle.model.specs.Conditions.{Sound}
+use Rattle.model.specs.Demand2 as D
+use Rattle.model.specs.Discovery.{mem}
+use Rattle.model.specs.Headers.{tuple}
+use Rattle.model.specs.Laws as Law
+use Rattle.model.specs.Looks as L
+use Rattle.model.specs.Objects.{address, isTraced, index, kind, fieldIndex, names}
+use Rattle.model.specs.Sessions.{step, Machine}
+use Rattle.model.specs.Shape.{badShapeOf}
+use Rattle.model.specs.Soundness.{tiles, headersFrom, headers, isValue, fieldsAreValues, sound}
+use Rattle.model.specs.Values.{isAddress, inRange, tag}
+use Rattle.model.specs.Words.{State, withHeap, at, free}
+use Rattle.model.specs.Worked as Worked
+use Rattle.model.proofs.Deciding.{sound-decides}
+use Rattle.model.proofs.Integers.{tag-odd}
+use Rattle.model.proofs.Rivals.{changed, is, checks, compares, loads}
+use Rattle.model.proofs.Tests.{by-test, never}
+
+-- ---- same looks at a heap word
+
+abbrev pub sameByWord1 : Machine
+sameByWord1 = changed (λ c s o. cond (is compares c) (says (cond (eqb (at (s .heap) 1) 0) Says.Yes Says.No) s) o)
+
+abbrev blank3 : State
+blank3 = Worked.state A 1 (replicate 3 0) (0 ∷ [])
+
+no-yes : Says.No ≡ Says.Yes → ⊥
+no-yes e = let z : _≡_ {A = ℕ} 0 1 = cc in omega arith
+
+pub same-by-word-1-breaks-sees : L.Looks tuple sameByWord1 → ⊥
+same-by-word-1-breaks-sees l = no-yes (l .sees (Ask.Same 0 0) blank3 (0 ∷ 5 ∷ 0 ∷ []) refl tt .answer)
+
+-- ---- load takes a raw word for a value: root 0 names an untraced object, whose one word is 6
+
+abbrev raw6 : State
+raw6 = Worked.state A 3 (0 ∷ 0x80000002 ∷ 6 ∷ 0 ∷ 0 ∷ []) (4 ∷ [])
+
+-- KIND becomes "done", and root 0 the first raw word of the object that it names
+abbrev pub loadsRaw : Machine
+loadsRaw = changed (λ c s o. cond (is loads c && eqb (told (o .answer) .refusal) (number Why.Kind))
+    (says Says.Done (withRoot s 0 (at (s .heap) (fieldIndex (index tuple (rootWord s 0)) 0)))) o)
+
+raw6-sound : Sound tuple raw6
+unfolding tuple sound badShapeOf tiles headersFrom isValue fieldsAreValues mem
+raw6-sound = sound-decides tuple raw6 .holds refl
+
+-- no origin has the word 6: all are odd or multiples of 4
+abbrev Fit : ℕ → Type 0
+Fit w = (w % 2 ≡ 1) ⊎ (w % 4 ≡ 0)
+
+traced-no : Untraced ≡ Traced → ⊥
+traced-no e = never refl (ap isTraced (sym e))
+
+headers-are : headers tuple raw6 ≡ 1 ∷ []
+unfolding tuple headersFrom
+headers-are = refl
+
+kind-is : kind tuple (raw6 .heap) 1 ≡ Untraced
+unfolding tuple
+kind-is = refl
+
+address-fits : (i : ℕ) → Fit (address tuple i)
+address-fits i = inr (omega arith)
+
+fit : (w : ℕ) → L.Origin tuple raw6 w → Fit w
+fit w (L.oldRoot zero l) = inr refl
+fit w (L.oldRoot (suc r) l) = absurd (omega arith)
+fit w (L.field i f m k l) =
+    let e : i ≡ 1 = List·Memᴰ·eq-of-singleton (rw headers-are at m) in
+    absurd (traced-no (sym kind-is ∙ ap (λ j. kind tuple (raw6 .heap) j) (sym e) ∙ k))
+fit w (L.integer v e) = inl (tag-odd v e)
+fit w L.null = inr refl
+fit w (L.renamed u v o b) =
+    ⊎-elim
+    (λ (p : isAddress u ≡ true). rw (b .moves p) (address-fits (D.copyIndex tuple raw6 (index tuple u))))
+    (λ (p : isAddress u ≡ false). rw (b .stays p) (fit u o))
+    (by-test (isAddress u))
+fit w L.placed = address-fits (free raw6)
+fit w L.placedThen = address-fits (free (collected tuple raw6))
+
+pub loads-raw-breaks-enters : L.Looks tuple loadsRaw → ⊥
+unfolding tuple step refuse Calls.load badShapeOf names
+loads-raw-breaks-enters l =
+    ⊎-elim (λ (e : 6 % 2 ≡ 1). omega arith) (λ (e : 6 % 4 ≡ 0). omega arith)
+    (fit 6 (l .enters (Ask.Load 0 0 0) raw6 0 raw6-sound (omega arith)))
+
+-- ---- a check that answers "done" to one unsound heap and "not sound" to another
+
+abbrev pub hushed : Machine
+hushed = changed (λ c s o. cond (is checks c && eqb (at (s .heap) 0) 7) (says Says.Done s) o)
+
+abbrev word0 : ℕ → State
+word0 w = Worked.state A 1 (w ∷ 0 ∷ 0 ∷ []) []
+
+done-unsound : Says.Done ≡ Says.Unsound → ⊥
+done-unsound e = let z : _≡_ {A = ℕ} 0 1 = cc in omega arith
+
+pub hushed-breaks-told-apart : Law.ToldApart hushed → ⊥
+unfolding tuple step refuse Calls.check badShapeOf sound
+hushed-breaks-told-apart t = done-unsound (t Ask.Check (word0 7) (word0 8) refl)
