@@ -62,7 +62,8 @@ taken-narrow c e n = subst (λ q. Narrow (q .free .0)) (sym e) (go (noHalf c) re
 pub narrow : {H′ R′ : List ℕ} {q : Record} {o : Answered} (c : CRecord) (H R : List ℕ) (k : Call)
     → q ≡ taken c → outcome o H′ R′ ≡ step tuple k (lent H R q)
     → Narrow (c .free) → Narrow (o .«record» .free .0)
-narrow c H R k e f n = subst (λ (o : Outcome State). Narrow (free (o .left))) (sym f) (step-narrow tuple (lent H R _) (taken-narrow c e n) k)
+narrow c H R k e f n = subst (λ (o : Outcome State). Narrow (free (o .left))) (sym f)
+    (step-narrow tuple (lent H R _) (taken-narrow c e n) k)
 
 -- fresh: it does not look at the record that it is given
 pub fresh-crosses : {H′ : List ℕ} {o : Answered} {r : CResult} (H : List ℕ) (q : Record) (c : CRecord)

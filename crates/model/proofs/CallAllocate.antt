@@ -121,7 +121,11 @@ module _ (Y : Layout) (law : WritesBoth Y) where
           → Full Y (Ask.Allocate k n r) s g o ⊎ Agrees Y o (says Says.Done (grown k n r g))
       go o l u (now f) = inr (refl, place-represents Y law s g m k n r u f)
       go o l u (later f) =
-          inr (refl, place-represents Y law (collected Y s) g (collect-represents Y s g m) k n r u (omega (arith, spare-after Y s (parts m))))
+          inr (
+            refl,
+            place-represents Y law (collected Y s) g (collect-represents Y s g m) k n r u
+                (omega (arith, spare-after Y s (parts m))),
+          )
       go o l u (never-fits f) =
           inl (record {
             kind = k;

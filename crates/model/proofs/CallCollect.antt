@@ -93,7 +93,8 @@ module _ (Y : Layout) (s : State) (g : Graph) (m : Represents Y s g) where
       (rep-along (rootValue g k) (at (s .roots) k) (m .roots k n))
 
   -- both are discovered alike
-  pub order-along : (p : ℕ) → (orderAt Y s p ≡ map (m .headerOf) (graphOrder g p)) × Inside (m .kept) (m .headerOf) (m .apart) (graphOrder g p)
+  pub order-along : (p : ℕ) → (orderAt Y s p ≡ map (m .headerOf) (graphOrder g p))
+      × Inside (m .kept) (m .headerOf) (m .apart) (graphOrder g p)
   unfolding orderAt graphOrder
   order-along p =
       found-along (m .kept) (m .headerOf) (m .apart) (graphCells g) none itself (cells Y (s .heap)) (still 0) (cellLeads Y) refl refl
@@ -150,7 +151,8 @@ module _ (Y : Layout) (s : State) (g : Graph) (m : Represents Y s g) where
   reach-kept : (x : ℕ) → In x (m .kept) → D.Reach Y s (m .headerOf x) → In x (graphOrder g (halfWords (s .heap)))
   reach-kept x i r =
       let o : In (m .headerOf x) (order Y s) = mem-in (m .headerOf x) (order Y s) (c .reached (m .headerOf x) r) in
-      let t = map-in-out (m .headerOf) (m .headerOf x) (graphOrder g (halfWords (s .heap))) (rw (order-along (halfWords (s .heap)) .0) at o) in
+      let t = map-in-out (m .headerOf) (m .headerOf x) (graphOrder g (halfWords (s .heap)))
+      (rw (order-along (halfWords (s .heap)) .0) at o) in
       subst (λ z. In z (graphOrder g (halfWords (s .heap)))) (m .apart (t .0) x (kept-known (t .0) (t .1)) i (t .2)) (t .1)
 
   -- a value and what its word became
@@ -188,7 +190,8 @@ module _ (Y : Layout) (s : State) (g : Graph) (m : Represents Y s g) where
     headerOf = headerOf′;
     known = λ x i. m .known x (kept-known x i);
     head = λ x i. rw (c .copies) (in-map (D.copyIndex Y s) (m .headerOf x) (order Y s) (kept-order x i));
-    apart = λ x y i j e. m .apart x y (kept-known x i) (kept-known y j) (c .shared (m .headerOf x) (m .headerOf y) (kept-reach x i) (kept-reach y j) e);
+    apart = λ x y i j e. m .apart x y (kept-known x i) (kept-known y j)
+        (c .shared (m .headerOf x) (m .headerOf y) (kept-reach x i) (kept-reach y j) e);
     count = c .rootCount ∙ m .count;
     roots = λ r l.
         let n : r < length (s .roots) = omega (arith, m .count) in

@@ -63,10 +63,13 @@ module _ (Y : Layout) where
       rw (n, d) (a x (e .0) (e .1))
 
   -- a field of a traced object, KIND or FIELD
-  traced-object : (s : State) (g : Graph) (m : Represents Y s g) (x f : ℕ) (next : Outcome State) (t : List Value → Outcome Graph) (b : Object)
-      → Holds Y (m .kept) (m .headerOf) (s .heap) b (m .headerOf x) → ((vs : List Value) → b ≡ traced vs → f < length vs → Agrees Y next (t vs))
+  traced-object : (s : State) (g : Graph) (m : Represents Y s g) (x f : ℕ) (next : Outcome State)
+      (t : List Value → Outcome Graph) (b : Object)
+      → Holds Y (m .kept) (m .headerOf) (s .heap) b (m .headerOf x)
+      → ((vs : List Value) → b ≡ traced vs → f < length vs → Agrees Y next (t vs))
       → Agrees Y
-      (refuse (not (isTraced (kind Y (s .heap) (m .headerOf x)))) Why.Kind s (refuse (leb (fieldCount Y (s .heap) (m .headerOf x)) f) Why.Field s next))
+      (refuse (not (isTraced (kind Y (s .heap) (m .headerOf x)))) Why.Kind s
+      (refuse (leb (fieldCount Y (s .heap) (m .headerOf x)) f) Why.Field s next))
       (byKind b (λ vs. refuse (leb (length vs) f) Why.Field g (t vs)) (wrongKind g x))
   unfolding refuse
   traced-object s g m x f next t (traced vs) h k =
@@ -76,8 +79,10 @@ module _ (Y : Layout) where
   traced-object s g m x f next t (untraced ws) h k = rw (h .0) (refl, m)
 
   -- and of an untraced one
-  untraced-object : (s : State) (g : Graph) (m : Represents Y s g) (x f : ℕ) (next : Outcome State) (t : List ℕ → Outcome Graph) (b : Object)
-      → Holds Y (m .kept) (m .headerOf) (s .heap) b (m .headerOf x) → ((ws : List ℕ) → b ≡ untraced ws → f < length ws → Agrees Y next (t ws))
+  untraced-object : (s : State) (g : Graph) (m : Represents Y s g) (x f : ℕ) (next : Outcome State)
+      (t : List ℕ → Outcome Graph) (b : Object)
+      → Holds Y (m .kept) (m .headerOf) (s .heap) b (m .headerOf x)
+      → ((ws : List ℕ) → b ≡ untraced ws → f < length ws → Agrees Y next (t ws))
       → Agrees Y
       (refuse (not (not (isTraced (kind Y (s .heap) (m .headerOf x))))) Why.Kind s
       (refuse (leb (fieldCount Y (s .heap) (m .headerOf x)) f) Why.Field s next))
@@ -96,7 +101,8 @@ module _ (Y : Layout) where
 
   traced-field : (s : State) (g : Graph) (m : Represents Y s g) (v : Value) (w f : ℕ) (next : Outcome State)
       (t : ℕ → List Value → Outcome Graph) → Encodes Y (m .kept) (m .headerOf) v w
-      → ((x : ℕ) (vs : List Value) → In x (m .kept) → w ≡ address Y (m .headerOf x) → nth g x ≡ traced vs → f < length vs → Agrees Y next (t x vs))
+      → ((x : ℕ) (vs : List Value) → In x (m .kept) → w ≡ address Y (m .headerOf x)
+      → nth g x ≡ traced vs → f < length vs → Agrees Y next (t x vs))
       → Agrees Y (onField Y Traced w f s next) (onObject g v (λ i vs. refuse (leb (length vs) f) Why.Field g (t i vs)) (wrongKind g))
   traced-field s g m v w f next t e k =
       on-object s g m Traced v w f next _ _ e (λ x i q.
@@ -104,7 +110,8 @@ module _ (Y : Layout) where
 
   untraced-field : (s : State) (g : Graph) (m : Represents Y s g) (v : Value) (w f : ℕ) (next : Outcome State)
       (t : ℕ → List ℕ → Outcome Graph) → Encodes Y (m .kept) (m .headerOf) v w
-      → ((x : ℕ) (ws : List ℕ) → In x (m .kept) → w ≡ address Y (m .headerOf x) → nth g x ≡ untraced ws → f < length ws → Agrees Y next (t x ws))
+      → ((x : ℕ) (ws : List ℕ) → In x (m .kept) → w ≡ address Y (m .headerOf x)
+      → nth g x ≡ untraced ws → f < length ws → Agrees Y next (t x ws))
       → Agrees Y (onField Y Untraced w f s next) (onObject g v (wrongKind g) (λ i ws. refuse (leb (length ws) f) Why.Field g (t i ws)))
   untraced-field s g m v w f next t e k =
       on-object s g m Untraced v w f next _ _ e (λ x i q.

@@ -150,7 +150,8 @@ module _ (Y : Layout) where
       ))
 
   -- what stands in the heap for an object of the graph
-  inspect-object : (s : State) (g : Graph) (m : Represents Y s g) (x : ℕ) (b : Object) → Holds Y (m .kept) (m .headerOf) (s .heap) b (m .headerOf x)
+  inspect-object : (s : State) (g : Graph) (m : Represents Y s g) (x : ℕ) (b : Object)
+      → Holds Y (m .kept) (m .headerOf) (s .heap) b (m .headerOf x)
       → Agrees Y (says (Says.Object (kind Y (s .heap) (m .headerOf x)) (fieldCount Y (s .heap) (m .headerOf x))) s)
       (byKind b (λ vs. says (Says.Object Traced (length vs)) g) (λ ws. says (Says.Object Untraced (length ws)) g))
   inspect-object s g m x (traced vs) h = (rw (h .0, h .1), m)

@@ -129,4 +129,5 @@ module _ (Y : Layout) (s : State) where
       judged-roots (r ∷ []) _ _
       (cond-holds (Judged Y s _) (isOdd (rootWord s r)) _ _ (λ a. by-none (odd-no-value r a, tt) (plainly (Says.Integer _) refl)) (λ a.
       cond-holds (Judged Y s _) (isNull (rootWord s r)) _ _ (λ b. by-none (null-no-value r b, tt) (plainly Says.Null refl)) (λ b.
-      judged-refuse _ Why.Object _ _ _ refl (value-decides Y s r (other-address (rootWord s r) a b)) (λ d. judged-says _ _ (object-plainly _ _)))))
+      judged-refuse _ Why.Object _ _ _ refl (value-decides Y s r (other-address (rootWord s r) a b))
+      (λ d. judged-says _ _ (object-plainly _ _)))))

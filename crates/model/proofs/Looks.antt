@@ -107,7 +107,8 @@ module _ (Y : Layout) (s : State) (H : List ℕ) (len : length H ≡ length (s .
         let a′ = length-take n (drop (j .0 + 1) H) in
         let b = length-drop (j .0 + 1) (s .heap) in
         let b′ = length-drop (j .0 + 1) H in
-        ext-getD 0 (take n (drop (j .0 + 1) H)) (take n (drop (j .0 + 1) (s .heap))) (rw (length-take, length-drop, len, length-take, length-drop))
+        ext-getD 0 (take n (drop (j .0 + 1) H)) (take n (drop (j .0 + 1) (s .heap)))
+        (rw (length-take, length-drop, len, length-take, length-drop))
         (λ f l.
         let u : f < n = omega arith in
         rw (getD-take n (drop (j .0 + 1) H) f 0 u, getD-drop, getD-take n (drop (j .0 + 1) (s .heap)) f 0 u, getD-drop, w .object)
@@ -178,7 +179,8 @@ module _ (Y : Layout) (s : State) (h : SoundTests Y s) where
     copied = λ from to l. set-from (s .roots) to (rootWord s from) refl old (L.oldRoot from l);
     loaded = λ r f to g.
         set-from (s .roots) to (at (s .heap) (fieldIndex (index Y (rootWord s r)) f)) refl old
-        (L.field (index Y (rootWord s r)) f (in-mem (index Y (rootWord s r)) (headers Y s) (is-header Y s h Traced r f g)) (g .kind-is) (g .below));
+        (L.field (index Y (rootWord s r)) f (in-mem (index Y (rootWord s r)) (headers Y s)
+        (is-header Y s h Traced r f g)) (g .kind-is) (g .below));
     stored = λ r f from g l. old;
     written = λ r f x g. old;
     placedNow = λ k n r a l e. placed-from k n r;

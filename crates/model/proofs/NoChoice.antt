@@ -103,7 +103,8 @@ module _ (Y : Layout) (s : State) where
         same-state t t′
         (ext-getD 0 (t .heap) (t′ .heap) same-length (λ i l. word-same i))
         (ext-getD 0 (t .roots) (t′ .roots) (c .rootCount ∙ sym (c′ .rootCount))
-        (λ r l. let n : r < length (s .roots) = omega (arith, c .rootCount) in became-same (at (s .roots) r) _ _ (c .root r n) (c′ .root r n)))
+        (λ r l. let n : r < length (s .roots) = omega (arith, c .rootCount) in
+        became-same (at (s .roots) r) _ _ (c .root r n) (c′ .root r n)))
         (same-record (t .«record») (t′ .«record») same-half same-free)
 
 pub no-choice : (Y : Layout) → D.NoChoice Y

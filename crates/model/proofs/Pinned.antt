@@ -186,7 +186,8 @@ module _ (Y : Layout) where
         both-done _ _ (E.NewObject Y k f r (collected Y s)) (one-object k f r (collected Y s)) (m .effects .allocateThen k f r s p c)
         (n .effects .allocateThen k f r s p c))
         (λ (c : f + 1 ≤ spare s).
-        both-done _ _ (E.NewObject Y k f r s) (one-object k f r s) (m .effects .allocateNow k f r s p c) (n .effects .allocateNow k f r s p c))
+        both-done _ _ (E.NewObject Y k f r s) (one-object k f r s) (m .effects .allocateNow k f r s p c)
+        (n .effects .allocateNow k f r s p c))
         (decide (spare s) (f + 1))
     passed-same (Ask.SetInteger r v) s p =
         both-done _ _ _ (one-root s r _) (m .effects .setInteger r v s p) (n .effects .setInteger r v s p)

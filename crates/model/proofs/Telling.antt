@@ -131,7 +131,8 @@ module _ (Y : Layout) (s : State) where
   step-back (Ask.RawRead r f) = on-roots (Ask.RawRead r f) (r ∷ []) _ (on-field (Ask.RawRead r f) Untraced r f _ (back refl))
   step-back (Ask.RawWrite r f x) =
       on-roots (Ask.RawWrite r f x) (r ∷ []) _ (on-field (Ask.RawWrite r f x) Untraced r f _ (back refl))
-  step-back (Ask.Same r q) = on-roots (Ask.Same r q) (r ∷ q ∷ []) _ (either (Ask.Same r q) (eqb (rootWord s r) (rootWord s q)) Says.Yes Says.No refl refl)
+  step-back (Ask.Same r q) =
+      on-roots (Ask.Same r q) (r ∷ q ∷ []) _ (either (Ask.Same r q) (eqb (rootWord s r) (rootWord s q)) Says.Yes Says.No refl refl)
   step-back (Ask.Inspect r) =
       on-roots (Ask.Inspect r) (r ∷ []) _
       (cond-holds (Back (Ask.Inspect r)) (isOdd (rootWord s r)) _ _ (λ e. back refl) (λ e.

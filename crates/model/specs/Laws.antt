@@ -75,4 +75,5 @@ ToldApart M = (c : Call) (s s′ : State) → told (M .step c s .answer) ≡ tol
 
 -- a promise is an equation `outcome .. ≡ o`: any two outcomes that it allows have equal answers, records, words and roots
 abbrev pub Settles : Type 0
-Settles = (o : Outcome State) (a b : Answered) (H H′ R R′ : List ℕ) → outcome a H R ≡ o → outcome b H′ R′ ≡ o → (a ≡ b) × (H ≡ H′) × (R ≡ R′)
+Settles = (o : Outcome State) (a b : Answered) (H H′ R R′ : List ℕ) → outcome a H R ≡ o → outcome b H′ R′ ≡ o
+    → (a ≡ b) × (H ≡ H′) × (R ≡ R′)
