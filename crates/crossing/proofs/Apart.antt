@@ -2,8 +2,6 @@
 use Prim.Native.Nat.{ℕ, _+_}
 use native.Mathlib.Omega.{arith}
 use mathlib.Core.Path.{_≡_, sym, ap, _∙_}
-use Rattle.model.specs.declared.Index.{Index}
-use Rattle.model.specs.declared.Refusal.{Refusal}
 use Rattle.model.specs.declared.Call.{Call}
 use Rattle.model.specs.declared.Call.the-variants as Ask
 use Rattle.model.specs.declared.Place.{Place}
@@ -11,11 +9,10 @@ use Rattle.model.specs.declared.Place.the-variants as Place
 use Rattle.model.specs.declared.Told.{Told}
 use Rattle.model.specs.Words.{State}
 use Rattle.model.specs.Headers.{Layout}
-use Rattle.model.specs.Answers.{number, tells, told}
+use Rattle.model.specs.Answers.{tells, told}
 use Rattle.model.specs.Sessions.{step}
 use Rattle.model.proofs.PlainAnswers.{no-zero}
 use Rattle.model.proofs.Telling.{heard, plain-heard, numbers-apart, read-back, told-apart}
-use Rattle.crossing.specs.declared.CRecord.{CRecord}
 use Rattle.crossing.specs.Numbers.{windowNumbers}
 use Rattle.crossing.specs.Laws as Law
 

@@ -25,7 +25,7 @@ use Rattle.model.proofs.Collected.{live-is}
 use Rattle.model.proofs.CollectedSound.{new-sound}
 use Rattle.model.proofs.Demand2.{collects}
 use Rattle.model.proofs.Deciding.{tests-sound}
-use Rattle.model.proofs.Discovery.{Reach, root, found-distinct}
+use Rattle.model.proofs.Discovery.{found-distinct}
 use Rattle.model.proofs.GraphWords.{below, in-below, total-packed}
 use Rattle.model.proofs.Lists.{getD-map, getD-same}
 use Rattle.model.proofs.Members.{In, in-map, map-in-out, mem-in, in-mem}

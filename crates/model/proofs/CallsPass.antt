@@ -1,51 +1,47 @@
 -- What each call comes to where nothing refuses it, and what that changes, word by word. Assumes nothing.
-use Prim.Native.Nat.{ℕ, _+_, _%_, _≤_, _<_}
+use Prim.Native.Nat.{ℕ, _+_, _≤_, _<_}
 use native.Mathlib.Omega.{arith}
 use native.Mathlib.Nat.{add-zero}
 use mathlib.Core.Path.{_≡_, refl, sym, ap, _∙_, subst}
-use mathlib.Core.Logic.{_⊎_, inl, inr, ⊎-elim, _↔_}
-use mathlib.Core.Bool.{Bool, true, false, not, cond}
+use mathlib.Core.Logic.{⊎-elim}
+use mathlib.Core.Bool.{Bool, true, false, cond}
 use mathlib.Core.List.{List, [], _∷_, List·Memᴰ, List·Memᴰ·head, List·Memᴰ·tail}
 use lib.Dec.{eqb}
 use lib.IntN.{ℤ}
 use lib.ListN.{length, replicate, length-set, length-replicate, getD-replicate}
 use lib.Seq.{sets, length-sets, getD-set-same, getD-set-other}
 use native.Mathlib.Numerals.{add-one}
-use borrow.Author.Tests.{leb-false, le-ltb, le-leb, lt-leb, not-false}
+use borrow.Author.Tests.{leb-false, le-leb, lt-leb, not-false}
 use Rattle.model.specs.declared.Kind.{Kind}
 use Rattle.model.specs.declared.Kind.the-variants.{Traced, Untraced}
-use Rattle.model.specs.declared.Refusal.{Refusal}
 use Rattle.model.specs.declared.Answer.{Answer}
 use Rattle.model.specs.declared.Answer.the-variants as Says
 use Rattle.model.specs.declared.Call.the-variants as Ask
-use Rattle.model.specs.Admission.{noRoots, onRoots}
+use Rattle.model.specs.Admission.{onRoots}
 use Rattle.model.specs.Answers.{Outcome, says, refuse}
 use Rattle.model.specs.Calls as Calls
-use Rattle.model.specs.Calls.{onField, fresh, freshRecord}
-use Rattle.model.specs.Changes.{rootWord, withRoot, withWord, spare, fits, placed}
+use Rattle.model.specs.Calls.{onField}
+use Rattle.model.specs.Changes.{rootWord, withRoot, withWord, spare, placed}
 use Rattle.model.specs.Collection.{collected}
 use Rattle.model.specs.Conditions as C
 use Rattle.model.specs.Conditions.{Decides}
 use Rattle.model.specs.Demand1 as D1
 use Rattle.model.specs.Effects as E
 use Rattle.model.specs.Headers.{Layout}
-use Rattle.model.specs.Limits.{maxFields}
 use Rattle.model.specs.Objects.{address, index, kind, fieldCount, names}
 use Rattle.model.specs.Refusals as Row
-use Rattle.model.specs.Sessions.{step, machine}
-use Rattle.model.specs.Shape.{badShape}
+use Rattle.model.specs.Sessions.{step}
 use Rattle.model.specs.Soundness.{sound}
 use Rattle.model.specs.Values.{isOdd, isNull, tag, untag}
-use Rattle.model.specs.Words.{State, lent, at, halfWords, firstWord, free}
-use Rattle.model.proofs.Collected.{new-length, new-roots}
+use Rattle.model.specs.Words.{State, at, free}
+use Rattle.model.proofs.Collected.{new-roots}
 use Rattle.model.proofs.CollectedSound.{new-shape}
-use Rattle.model.proofs.Conditions.{roots-decide, count-decides, range-decides, object-decides, value-decides, kind-decides, field-decides, unsound-decides, called}
-use Rattle.model.proofs.Deciding.{shape-decides, other-address, names-decides, sound-decides, sound-tests}
-use Rattle.model.proofs.Lists.{getD-same, sets-before, sets-in, sets-past}
+use Rattle.model.proofs.Conditions.{roots-decide, count-decides, range-decides, object-decides, value-decides, kind-decides, field-decides}
+use Rattle.model.proofs.Deciding.{shape-decides, other-address, names-decides, sound-decides}
+use Rattle.model.proofs.Lists.{sets-before, sets-in, sets-past}
 use Rattle.model.proofs.Shape.{Shaped, shaped, first-in}
 use Rattle.model.proofs.Soundness.{SoundTests, sound-parts, sound-whole}
-use Rattle.model.proofs.Start.{fresh-good}
-use Rattle.model.proofs.Tests.{by-test, never, decide}
+use Rattle.model.proofs.Tests.{by-test, decide}
 
 -- a condition that does not hold, by its test
 pub fails-test : {b : Bool} {P : Type 0} → Decides b P → (P → ⊥) → b ≡ false

@@ -19,7 +19,6 @@ use Rattle.model.specs.Values.{isAddress}
 use Rattle.model.specs.Words.{State, at, halfWords, firstWord, otherFirst, free}
 use Rattle.model.proofs.Collected.{live-is, new-length, new-room, new-first, new-other, new-free, new-rest, new-old, new-null, order-tile, new-header, new-field, new-root, new-roots}
 use Rattle.model.proofs.Copies.{copies-tiled}
-use Rattle.model.proofs.Discovery.{Reach}
 use Rattle.model.proofs.Members.{In, in-map, map-in-out}
 use Rattle.model.proofs.Objects.{cells-length}
 use Rattle.model.proofs.Order.{orderAt-distinct, orderAt-reached, order-fits, reached-order, reached-reach, reach-reached}

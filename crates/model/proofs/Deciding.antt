@@ -1,10 +1,10 @@
 -- The tests of the definitions decide document 01's conditions: SHAPE, naming an object, soundness. Assumes nothing.
-use Prim.Native.Nat.{ℕ, zero, suc, _+_, _-_, _%_, _≤_, _<_}
+use Prim.Native.Nat.{ℕ, zero, suc, _+_, _-_, _%_, _≤_}
 use native.Mathlib.Omega.{arith}
-use mathlib.Core.Path.{_≡_, refl, sym, ap, subst}
+use mathlib.Core.Path.{_≡_, refl, sym, subst}
 use mathlib.Core.Logic.{⊎-elim}
 use mathlib.Core.Bool.{true, false, not, _&&_}
-use mathlib.Core.List.{List, [], _∷_, List·Memᴰ}
+use mathlib.Core.List.{List, []}
 use lib.Dec.{ltb, leb, eqb}
 use lib.ListN.{length}
 use borrow.Author.Tests.{ltb-true, ltb-false, leb-true, eqb-true, eqb-false, eq-eqb, ne-eqb, lt-ltb, le-leb, not-true}
@@ -13,7 +13,7 @@ use Rattle.model.specs.Conditions.{Decides}
 use Rattle.model.specs.Discovery.{mem}
 use Rattle.model.specs.Headers.{Layout}
 use Rattle.model.specs.Limits.{maxWords, maxRoots}
-use Rattle.model.specs.Objects.{address, index, size, names}
+use Rattle.model.specs.Objects.{index, size, names}
 use Rattle.model.specs.Shape.{badLength, badShapeOf, badShape}
 use Rattle.model.specs.Soundness.{tiles, headersFrom, headers, isValue, sound}
 use Rattle.model.specs.Values.{isOdd, isNull, isAddress}

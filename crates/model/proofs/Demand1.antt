@@ -21,7 +21,6 @@ use Rattle.model.specs.Changes.{rootWord}
 use Rattle.model.specs.Collection.{collected}
 use Rattle.model.specs.Conditions.{Decides}
 use Rattle.model.specs.Demand1 as D1
-use Rattle.model.specs.Graph.{Object}
 use Rattle.model.specs.Headers.{Layout}
 use Rattle.model.specs.Objects.{names}
 use Rattle.model.specs.Refusals as Row

@@ -2,7 +2,6 @@
 use Prim.Native.Nat.{ℕ, _+_}
 use native.Mathlib.Omega.{arith}
 use mathlib.Core.Path.{_≡_, refl, sym, ap, _∙_, subst}
-use mathlib.Core.Bool.{true}
 use mathlib.Core.List.{List, [], _∷_, map, List·Memᴰ}
 use lib.ListN.{length, take, length-append}
 use Rattle.model.specs.declared.Answer.the-variants as Says
@@ -14,14 +13,13 @@ use Rattle.model.specs.Demand2 as D
 use Rattle.model.specs.Discovery.{packed}
 use Rattle.model.specs.Headers.{Layout}
 use Rattle.model.specs.Sessions.{step, machine, answers}
-use Rattle.model.specs.Soundness.{sound}
 use Rattle.model.specs.Words.{State, at, halfWords, otherFirst}
 use Rattle.model.proofs.Breadth.{breadth}
 use Rattle.model.proofs.Collected.{live-is, new-length, new-first, new-half, new-free, order-tile, new-header, new-field, new-root, new-roots}
 use Rattle.model.proofs.CollectedSound.{new-tiled, becomes, reach-order, order-reach, traced-field, new-sound}
 use Rattle.model.proofs.Copies.{wordsBefore-nth}
 use Rattle.model.proofs.Deciding.{tests-sound, sound-tests}
-use Rattle.model.proofs.Discovery.{Reach, root}
+use Rattle.model.proofs.Discovery.{root}
 use Rattle.model.proofs.Meetings.{met, only}
 use Rattle.model.proofs.Members.{In, in-tail, in-self, in-take, distinct-once, mem-in, in-mem}
 use Rattle.model.proofs.Objects.{cells-length}

@@ -4,8 +4,6 @@ use native.Mathlib.Omega.{arith}
 use mathlib.Core.Path.{_≡_, refl, sym, ap, _∙_, subst}
 use mathlib.Core.Logic.{⊎-elim, _↔_}
 use mathlib.Core.Bool.{false}
-use mathlib.Core.List.{List}
-use mathlib.Core.Option.{some}
 use lib.Dec.{eqb}
 use lib.ListN.{length}
 use borrow.Author.Tests.{lt-ltb, le-ltb, le-leb, lt-leb}
@@ -17,7 +15,7 @@ use Rattle.model.specs.declared.Call.{Call}
 use Rattle.model.specs.declared.Call.the-variants as Ask
 use Rattle.model.specs.Answers.{refuse, number}
 use Rattle.model.specs.Demand3 as D3
-use Rattle.model.specs.Graph.{Graph, emptyGraph, totalWords, graphOrder, graphLive}
+use Rattle.model.specs.Graph.{Graph, emptyGraph, totalWords, graphOrder}
 use Rattle.model.specs.GraphCalls.{graphStep, graphAfter}
 use Rattle.model.specs.Headers.{Layout, WritesBoth, tuple}
 use Rattle.model.specs.Limits.{maxFields}

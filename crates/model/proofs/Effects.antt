@@ -9,18 +9,16 @@ use lib.ListN.{length, length-replicate}
 use borrow.Author.Tests.{eqb-true, eqb-false, eq-eqb, ne-eqb}
 use Rattle.model.specs.declared.Answer.{Answer}
 use Rattle.model.specs.declared.Answer.the-variants as Says
-use Rattle.model.specs.declared.Call.the-variants as Ask
-use Rattle.model.specs.Answers.{Outcome, says}
-use Rattle.model.specs.Calls.{fresh, freshRecord}
+use Rattle.model.specs.Calls.{fresh}
 use Rattle.model.specs.Changes.{rootWord}
 use Rattle.model.specs.Conditions as C
 use Rattle.model.specs.Conditions.{Decides}
 use Rattle.model.specs.Effects as E
 use Rattle.model.specs.Headers.{Layout}
-use Rattle.model.specs.Sessions.{step, machine}
+use Rattle.model.specs.Sessions.{machine}
 use Rattle.model.specs.Soundness.{sound}
-use Rattle.model.specs.Values.{isOdd, isNull, untag}
-use Rattle.model.specs.Words.{State, lent}
+use Rattle.model.specs.Values.{untag}
+use Rattle.model.specs.Words.{State}
 use Rattle.model.proofs.CallsPass.{fails-test, done-with, set-integer, set-null, copies, loads, stores, raw-writes, raw-reads, checks, sames, seen, objectSeen, inspects, allocates-now, allocates-then}
 use Rattle.model.proofs.Deciding.{length-decides, sound-decides}
 use Rattle.model.proofs.Lists.{getD-same}

@@ -3,7 +3,7 @@ use Prim.Native.Nat.{ℕ, _%_}
 use native.Mathlib.Omega.{arith}
 use mathlib.Core.Path.{_≡_, refl, sym, ap, _∙_}
 use mathlib.Core.Logic.{inl, inr}
-use mathlib.Core.Bool.{Bool, true, false, not, _||_, true≢false}
+use mathlib.Core.Bool.{Bool, true, false, not, true≢false}
 use mathlib.Core.List.{List, [], _∷_}
 use lib.Dec.{eqb}
 use lib.ListN.{length}
@@ -24,7 +24,6 @@ use Rattle.model.specs.Changes.{rootWord, fits}
 use Rattle.model.specs.Collection.{live, collected}
 use Rattle.model.specs.Conditions.{Decides, BadShape}
 use Rattle.model.specs.Demand1 as D1
-use Rattle.model.specs.Graph.{Object}
 use Rattle.model.specs.Headers.{Layout}
 use Rattle.model.specs.Objects.{names}
 use Rattle.model.specs.Refusals as Row

@@ -12,7 +12,7 @@ use Rattle.model.specs.Collection.{collected}
 use Rattle.model.specs.Headers.{Layout, WritesBoth}
 use Rattle.model.specs.Objects.{isTraced, fieldIndex, index, names}
 use Rattle.model.specs.Sessions.{step}
-use Rattle.model.specs.Soundness.{headers, sound}
+use Rattle.model.specs.Soundness.{headers}
 use Rattle.model.specs.Values.{isAddress, tag}
 use Rattle.model.specs.Words.{State, at}
 use Rattle.model.proofs.CollectedSound.{new-sound}
@@ -21,7 +21,7 @@ use Rattle.model.proofs.Keeping.{root-sound, word-sound}
 use Rattle.model.proofs.Leaving.{HasField, step-left}
 use Rattle.model.proofs.Members.{In}
 use Rattle.model.proofs.Placing.{zero-value, place-sound}
-use Rattle.model.proofs.Soundness.{SoundTests, sound-parts, sound-whole}
+use Rattle.model.proofs.Soundness.{SoundTests}
 use Rattle.model.proofs.Tests.{by-test, never}
 use Rattle.model.proofs.Values.{value-header, plain-value}
 

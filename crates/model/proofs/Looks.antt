@@ -1,16 +1,14 @@
 -- What the library's calls look at, and where a root's word comes from. Assumes nothing.
-use Prim.Native.Nat.{ℕ, _+_, _-_, _/_, _<_}
+use Prim.Native.Nat.{ℕ, _+_, _<_}
 use native.Mathlib.Omega.{arith}
-use mathlib.Core.Path.{_≡_, refl, sym, ap, _∙_, subst}
+use mathlib.Core.Path.{_≡_, refl, sym, ap, subst}
 use mathlib.Core.Logic.{⊎-elim}
 use mathlib.Core.Bool.{Bool, true, false, not, cond}
 use mathlib.Core.List.{List, [], _∷_}
 use lib.Dec.{leb}
-use lib.IntN.{ℤ}
-use lib.ListN.{length, set, take, drop, length-set, length-take, length-drop}
+use lib.ListN.{length, set, take, drop, length-take, length-drop}
 use lib.Seq.{getD-set-same, getD-set-other, getD-take, getD-drop, ext-getD}
 use borrow.Author.Tests.{leb-false}
-use Rattle.model.specs.declared.Index.{Index}
 use Rattle.model.specs.declared.Kind.{Kind}
 use Rattle.model.specs.declared.Kind.the-variants.{Traced, Untraced}
 use Rattle.model.specs.declared.Refusal.{Refusal}
@@ -21,29 +19,29 @@ use Rattle.model.specs.declared.Call.the-variants as Ask
 use Rattle.model.specs.declared.Place.{Place}
 use Rattle.model.specs.declared.Place.the-variants as Place
 use Rattle.model.specs.Admission.{noRoots, onRoots}
-use Rattle.model.specs.Answers.{Outcome, says, refuse}
+use Rattle.model.specs.Answers.{Outcome, refuse}
 use Rattle.model.specs.Calls as Calls
 use Rattle.model.specs.Calls.{isOfKind, onField}
-use Rattle.model.specs.Changes.{rootWord, withRoot, placed}
+use Rattle.model.specs.Changes.{rootWord, placed}
 use Rattle.model.specs.Collection.{collected}
 use Rattle.model.specs.Headers.{Layout}
 use Rattle.model.specs.Looks as L
 use Rattle.model.specs.Objects.{address, index, kind, fieldCount, fieldIndex, names}
 use Rattle.model.specs.Sessions.{step, machine}
 use Rattle.model.specs.Shape.{badShapeOf, badShape}
-use Rattle.model.specs.Soundness.{headers, sound}
+use Rattle.model.specs.Soundness.{headers}
 use Rattle.model.specs.Values.{isOdd, isNull, tag}
 use Rattle.model.specs.Window.{window, shown}
-use Rattle.model.specs.Words.{State, withHeap, at, firstOf, firstWord, free}
+use Rattle.model.specs.Words.{State, withHeap, at, free}
 use Rattle.model.proofs.Collected.{new-roots}
 use Rattle.model.proofs.Deciding.{sound-tests}
 use Rattle.model.proofs.Demand2.{collects}
 use Rattle.model.proofs.KeepSound.{is-header}
 use Rattle.model.proofs.Laws.{window-law}
-use Rattle.model.proofs.Leaving.{HasField, step-left}
+use Rattle.model.proofs.Leaving.{step-left}
 use Rattle.model.proofs.Members.{in-mem}
-use Rattle.model.proofs.Soundness.{SoundTests, sound-parts}
-use Rattle.model.proofs.Tests.{by-test, same?}
+use Rattle.model.proofs.Soundness.{SoundTests}
+use Rattle.model.proofs.Tests.{same?}
 
 -- ---- two heaps of one length
 

@@ -1,26 +1,23 @@
 -- Demand 2 leaves no choice: what a collection may leave of a state is one state, and L one number. Assumes nothing.
 use Prim.Native.Nat.{ℕ, zero, suc, _+_, _-_, _/_, _≤_, _<_}
 use native.Mathlib.Omega.{arith}
-use mathlib.Core.Path.{_≡_, refl, sym, ap, _∙_, subst}
-use mathlib.Core.Logic.{_⊎_, inl, inr, ⊎-elim}
+use mathlib.Core.Path.{_≡_, sym, ap, _∙_, subst}
+use mathlib.Core.Logic.{inl, inr, ⊎-elim}
 use mathlib.Core.Bool.{true, false}
 use lib.ListN.{length}
 use lib.Seq.{ext-getD}
 use Rattle.model.specs.declared.Half.{Half}
-use Rattle.model.specs.declared.Kind.{Kind}
-use Rattle.model.specs.declared.Kind.the-variants.{Traced, Untraced}
 use Rattle.model.specs.Collection.{order}
 use Rattle.model.specs.Demand2 as D
 use Rattle.model.specs.Headers.{Layout}
 use Rattle.model.specs.Objects.{isTraced, kind, fieldCount, size, fieldIndex}
-use Rattle.model.specs.Soundness.{headers}
 use Rattle.model.specs.Values.{isAddress}
 use Rattle.model.specs.Words.{State, at, firstOf, firstWord, free}
 use Rattle.model.proofs.Deciding.{sound-tests}
 use Rattle.model.proofs.Members.{In, map-in-out, in-mem}
 use Rattle.model.proofs.Objects.{kind-traced, kind-untraced}
 use Rattle.model.proofs.Same.{same-state, same-record}
-use Rattle.model.proofs.Tests.{by-test, decide, same?}
+use Rattle.model.proofs.Tests.{by-test, decide}
 use Rattle.model.proofs.Tiling.{headers-cover}
 
 module _ (Y : Layout) (s : State) where

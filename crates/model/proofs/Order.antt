@@ -12,7 +12,6 @@ use borrow.Author.Tests.{ltb-true, ltb-false}
 use Rattle.model.specs.Collection.{still, cells, wordLeads, cellLeads, orderAt, order}
 use Rattle.model.specs.Demand2 as D
 use Rattle.model.specs.Discovery.{packed}
-use Rattle.model.specs.Graph.{traced}
 use Rattle.model.specs.Headers.{Layout}
 use Rattle.model.specs.Objects.{index, size}
 use Rattle.model.specs.Soundness.{headers}

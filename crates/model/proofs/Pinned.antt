@@ -2,12 +2,11 @@
 use Prim.Native.Nat.{ℕ, _+_, _-_, _%_, _≤_, _<_}
 use native.Mathlib.Omega.{arith}
 use mathlib.Core.Path.{_≡_, refl, sym, ap, _∙_, subst}
-use mathlib.Core.Logic.{_⊎_, inl, inr, ⊎-elim, _↔_}
-use mathlib.Core.Bool.{true, false, not}
-use lib.Dec.{leb}
+use mathlib.Core.Logic.{_⊎_, inl, inr, ⊎-elim}
+use mathlib.Core.Bool.{true, false}
 use lib.ListN.{length}
 use lib.Seq.{ext-getD}
-use borrow.Author.Tests.{eqb-true, eqb-false, not-true, not-false}
+use borrow.Author.Tests.{eqb-true, not-false}
 use Rattle.model.specs.declared.Kind.{Kind}
 use Rattle.model.specs.declared.Refusal.{Refusal}
 use Rattle.model.specs.declared.Refusal.the-variants as Why
@@ -19,9 +18,7 @@ use Rattle.model.specs.Answers.{Outcome}
 use Rattle.model.specs.Changes.{rootWord, spare}
 use Rattle.model.specs.Collection.{collected}
 use Rattle.model.specs.Conditions as C
-use Rattle.model.specs.Conditions.{Decides}
 use Rattle.model.specs.Demand1 as D1
-use Rattle.model.specs.Demand2 as D
 use Rattle.model.specs.Effects as E
 use Rattle.model.specs.Headers.{Layout}
 use Rattle.model.specs.Objects.{fieldIndex, names}

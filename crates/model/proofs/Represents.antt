@@ -5,10 +5,8 @@ use mathlib.Core.Path.{_≡_, refl, sym, ap, _∙_, subst}
 use mathlib.Core.Logic.{⊎-elim}
 use mathlib.Core.Bool.{Bool, true, false}
 use mathlib.Core.List.{List}
-use lib.Dec.{leb}
 use lib.ListN.{length, getD, List·getD-eq-default}
 use borrow.Author.Tests.{eq-eqb, ne-eqb, lt-ltb, le-leb}
-use Rattle.model.specs.declared.Kind.the-variants.{Traced, Untraced}
 use Rattle.model.specs.declared.Refusal.{Refusal}
 use Rattle.model.specs.declared.Refusal.the-variants as Why
 use Rattle.model.specs.Answers.{Outcome, refuse}
@@ -19,10 +17,10 @@ use Rattle.model.specs.GraphCalls.{onGraphRoots}
 use Rattle.model.specs.Changes.{rootWord}
 use Rattle.model.specs.Headers.{Layout}
 use Rattle.model.specs.Represents.{plainWord, hasWord, Encodes, Holds, Represents}
-use Rattle.model.specs.Objects.{address, kind, fieldCount, size, names}
+use Rattle.model.specs.Objects.{address, size, names}
 use Rattle.model.specs.Shape.{badShape}
 use Rattle.model.specs.Soundness.{headers, isValue}
-use Rattle.model.specs.Values.{isOdd, isNull, isAddress, inRange, tag}
+use Rattle.model.specs.Values.{isOdd, isNull, isAddress}
 use Rattle.model.specs.Words.{State, at, firstWord, free}
 use Rattle.model.proofs.Deciding.{sound-tests}
 use Rattle.model.proofs.Integers.{tag-no-address}

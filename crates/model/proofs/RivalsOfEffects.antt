@@ -1,22 +1,19 @@
 -- Wrong machines that meet the demands' older sentences, and the field of Effects that each of them breaks. Assumes nothing.
-use Prim.Native.Nat.{ℕ, _+_, _-_, _/_}
+use Prim.Native.Nat.{ℕ, _+_}
 use native.Mathlib.Omega.{arith}
-use mathlib.Core.Path.{_≡_, refl, sym, ap, _∙_}
-use mathlib.Core.Bool.{Bool, false, cond, not, _||_, _&&_}
-use mathlib.Core.List.{List, [], _∷_}
-use lib.Dec.{ltb, eqb}
-use lib.ListN.{length, getD, replicate}
+use mathlib.Core.Path.{_≡_, refl, ap}
+use mathlib.Core.Bool.{false, cond, not, _||_, _&&_}
+use mathlib.Core.List.{[], _∷_}
+use lib.ListN.{length, replicate}
 use Rattle.model.specs.declared.Half.the-variants.{A, B}
-use Rattle.model.specs.declared.Call.{Call}
 use Rattle.model.specs.declared.Call.the-variants as Ask
 use Rattle.model.specs.declared.Refusal.the-variants as Why
-use Rattle.model.specs.declared.Answer.{Answer}
 use Rattle.model.specs.declared.Answer.the-variants as Says
-use Rattle.model.specs.Answers.{Outcome, says, refuse, told}
+use Rattle.model.specs.Answers.{says, refuse}
 use Rattle.model.specs.Calls as Calls
-use Rattle.model.specs.Collection.{wordLeads, orderAt, live, rename, copied, collected}
+use Rattle.model.specs.Collection.{copied, collected}
 use Rattle.model.specs.Conditions as C
-use Rattle.model.specs.Discovery.{mem, visit, visits, packed, wordsBefore, found}
+use Rattle.model.specs.Discovery.{mem}
 use Rattle.model.specs.Effects as E
 use Rattle.model.specs.Headers.{tuple}
 use Rattle.model.specs.Sessions.{step, Machine}
@@ -26,7 +23,7 @@ use Rattle.model.specs.Words.{State, lent, withHeap, withRecord, withFre
 use Rattle.model.specs.Worked as Worked
 use Rattle.model.proofs.Conditions.{roots-decide}
 use Rattle.model.proofs.Deciding.{length-decides, shape-decides}
-use Rattle.model.proofs.Rivals.{changed, Sort, collects, checks, is, isRefusal, p5}
+use Rattle.model.proofs.Rivals.{changed, collects, checks, is, isRefusal, p5}
 
 -- a heap of good shape, in which nothing refuses a check
 check-passes : (s : State) → badShape s ≡ false → E.Passes tuple Ask.Check s

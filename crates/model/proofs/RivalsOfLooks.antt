@@ -1,21 +1,18 @@
 -- Wrong machines that look at more than they may or cannot be told apart, and the sentence that each of them breaks. Assumes nothing.
-use Prim.Native.Nat.{ℕ, zero, suc, _+_, _%_, _<_}
+use Prim.Native.Nat.{ℕ, zero, suc, _%_}
 use native.Mathlib.Omega.{arith}
 use mathlib.Core.Path.{_≡_, refl, sym, ap, _∙_}
 use mathlib.Core.Logic.{_⊎_, inl, inr, ⊎-elim}
-use mathlib.Core.Bool.{Bool, true, false, cond, _&&_}
-use mathlib.Core.List.{List, [], _∷_, List·Memᴰ, List·Memᴰ·eq-of-singleton}
+use mathlib.Core.Bool.{true, false, cond, _&&_}
+use mathlib.Core.List.{[], _∷_, List·Memᴰ·eq-of-singleton}
 use lib.Dec.{eqb}
-use lib.IntN.{ℤ}
-use lib.ListN.{length, replicate}
+use lib.ListN.{replicate}
 use Rattle.model.specs.declared.Half.the-variants.{A}
-use Rattle.model.specs.declared.Kind.{Kind}
 use Rattle.model.specs.declared.Kind.the-variants.{Traced, Untraced}
-use Rattle.model.specs.declared.Call.{Call}
 use Rattle.model.specs.declared.Call.the-variants as Ask
 use Rattle.model.specs.declared.Refusal.the-variants as Why
 use Rattle.model.specs.declared.Answer.the-variants as Says
-use Rattle.model.specs.Answers.{Outcome, says, refuse, number, told}
+use Rattle.model.specs.Answers.{says, refuse, number, told}
 use Rattle.model.specs.Calls as Calls
 use Rattle.model.specs.Changes.{withRoot, rootWord}
 use Rattle.model.specs.Collection.{collected}
@@ -29,8 +26,8 @@ use Rattle.model.specs.Objects.{address, isTraced, index, kind, fieldInd
 use Rattle.model.specs.Sessions.{step, Machine}
 use Rattle.model.specs.Shape.{badShapeOf}
 use Rattle.model.specs.Soundness.{tiles, headersFrom, headers, isValue, fieldsAreValues, sound}
-use Rattle.model.specs.Values.{isAddress, inRange, tag}
-use Rattle.model.specs.Words.{State, withHeap, at, free}
+use Rattle.model.specs.Values.{isAddress}
+use Rattle.model.specs.Words.{State, at, free}
 use Rattle.model.specs.Worked as Worked
 use Rattle.model.proofs.Deciding.{sound-decides}
 use Rattle.model.proofs.Integers.{tag-odd}

@@ -16,10 +16,9 @@ use Rattle.model.specs.declared.Answer.the-variants as Says
 use Rattle.model.specs.declared.Call.the-variants as Ask
 use Rattle.model.specs.Answers.{number}
 use Rattle.model.specs.Demand3 as D3
-use Rattle.model.specs.Graph.{Object, Graph}
+use Rattle.model.specs.Graph.{Graph}
 use Rattle.model.specs.GraphCalls.{graphStep, graphAnswers, graphAfter}
 use Rattle.model.specs.Headers.{Layout, WritesBoth}
-use Rattle.model.specs.Objects.{kind}
 use Rattle.model.specs.Sessions.{step, machine, answers, after}
 use Rattle.model.specs.Words.{State, halfWords}
 use Rattle.model.proofs.CallAllocate.{allocate-room, Full, allocate-agrees}
@@ -32,7 +31,6 @@ use Rattle.model.proofs.Lengths.{step-lengths}
 use Rattle.model.specs.Represents.{Represents}
 use Rattle.model.proofs.Represents.{parts, Agrees}
 use Rattle.model.proofs.CallsOnRoots.{check-agrees, setInteger-agrees, setNull-agrees, copy-agrees, same-agrees, inspect-agrees}
-use Rattle.model.proofs.Soundness.{SoundTests}
 use Rattle.model.proofs.Tests.{by-test, never}
 
 cons-same : {A : Type 0} {a b : A} {xs ys : List A} → a ≡ b → xs ≡ ys → a ∷ xs ≡ b ∷ ys

@@ -1,7 +1,7 @@
 -- Every sound state of 32-bit words stands for a graph: an object for each header of the tiling, in that order. Assumes nothing.
-use Prim.Native.Nat.{ℕ, zero, suc, _+_, _-_, _%_, _≤_, _<_}
+use Prim.Native.Nat.{ℕ, zero, suc, _+_, _-_, _%_, _<_}
 use native.Mathlib.Omega.{arith}
-use mathlib.Core.Path.{_≡_, refl, sym, ap, _∙_, subst}
+use mathlib.Core.Path.{_≡_, refl, sym, ap, _∙_}
 use mathlib.Core.Logic.{⊎-elim}
 use mathlib.Core.Bool.{true, false, cond}
 use mathlib.Core.List.{List, [], _∷_, map}
@@ -17,7 +17,7 @@ use Rattle.model.specs.Graph.{integer, null, Value, plain, object, Objec
 use Rattle.model.specs.Headers.{Layout}
 use Rattle.model.specs.Objects.{address, index, kind, fieldCount, size, fieldWords}
 use Rattle.model.specs.Represents.{Encodes, Holds, Represents}
-use Rattle.model.specs.Soundness.{tiles, headersFrom, headers, isValue}
+use Rattle.model.specs.Soundness.{tiles, headersFrom, headers}
 use Rattle.model.specs.Values.{isNull, isAddress, untag}
 use Rattle.model.specs.Words.{State, at, firstWord, free}
 use Rattle.model.proofs.Deciding.{headers-valid, tests-sound}

@@ -1,25 +1,24 @@
 -- What fresh leaves of any words of a legal length with null roots is sound and stands for the empty graph. Assumes nothing.
-use Prim.Native.Nat.{ℕ, _+_, _*_, _-_, _%_, _≤_}
+use Prim.Native.Nat.{ℕ, _+_, _*_, _-_, _%_}
 use native.Mathlib.Omega.{arith}
 use mathlib.Core.Path.{_≡_, refl, sym, ap, _∙_, subst}
 use mathlib.Core.Bool.{false}
-use mathlib.Core.List.{List, []}
+use mathlib.Core.List.{[]}
 use lib.IntN.{pos}
 use lib.ListN.{length, replicate, length-replicate}
 use borrow.Author.Tests.{ne-eqb, le-ltb}
 use Rattle.model.specs.declared.Half.the-variants.{A}
-use Rattle.model.specs.declared.Record.{Record}
 use Rattle.model.specs.declared.Answer.the-variants as Says
 use Rattle.model.specs.Answers.{says, refuse}
 use Rattle.model.specs.Calls.{fresh, freshRecord}
 use Rattle.model.specs.Demand3 as D3
 use Rattle.model.specs.Graph.{null, Value, plain, emptyGraph}
 use Rattle.model.specs.Headers.{Layout}
-use Rattle.model.specs.Limits.{maxWords, maxRoots}
+use Rattle.model.specs.Limits.{maxWords}
 use Rattle.model.specs.Sessions.{machine}
 use Rattle.model.specs.Shape.{badLength}
 use Rattle.model.specs.Soundness.{headers}
-use Rattle.model.specs.Words.{State, lent, at, halfWords, free}
+use Rattle.model.specs.Words.{State, lent, at, halfWords}
 use Rattle.model.proofs.Deciding.{tests-sound}
 use Rattle.model.proofs.Lists.{getD-same}
 use Rattle.model.proofs.Members.{in-nil}
