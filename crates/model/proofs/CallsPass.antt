@@ -47,10 +47,6 @@ use Rattle.model.proofs.Tests.{by-test, decide}
 pub fails-test : {b : Bool} {P : Type 0} → Decides b P → (P → ⊥) → b ≡ false
 fails-test {b} d n = ⊎-elim (λ (e : b ≡ true). absurd (n (d .holds e))) (λ (e : b ≡ false). e) (by-test b)
 
--- and one that does
-pub holds-test : {b : Bool} {P : Type 0} → Decides b P → P → b ≡ true
-holds-test {b} d p = ⊎-elim (λ (e : b ≡ true). e) (λ (e : b ≡ false). absurd (d .fails e p)) (by-test b)
-
 -- "done" with a change
 pub done-with : {o : Outcome State} (P : State → Type 0) (t : State) → o ≡ says Says.Done t → P t → E.Done o P
 done-with P t e p = (ap (λ z. z .answer) e, subst P (sym (ap (λ z. z .left) e)) p)

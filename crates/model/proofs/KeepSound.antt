@@ -1,8 +1,6 @@
 -- Every session call leaves a sound state sound. Assumes nothing.
 use Prim.Native.Nat.{ℕ, _+_}
-use mathlib.Core.Path.{_≡_, refl, sym, ap}
-use mathlib.Core.Logic.{⊎-elim}
-use mathlib.Core.Bool.{true, false}
+use mathlib.Core.Path.{ap}
 use borrow.Author.Tests.{leb-true}
 use Rattle.model.specs.declared.Kind.{Kind}
 use Rattle.model.specs.declared.Kind.the-variants.{Traced, Untraced}
@@ -10,31 +8,28 @@ use Rattle.model.specs.declared.Call.{Call}
 use Rattle.model.specs.Changes.{rootWord, spare}
 use Rattle.model.specs.Collection.{collected}
 use Rattle.model.specs.Headers.{Layout, WritesBoth}
-use Rattle.model.specs.Objects.{isTraced, fieldIndex, index, names}
+use Rattle.model.specs.Objects.{isTraced, fieldIndex, index}
 use Rattle.model.specs.Sessions.{step}
 use Rattle.model.specs.Soundness.{headers}
-use Rattle.model.specs.Values.{isAddress, tag}
+use Rattle.model.specs.Values.{tag}
 use Rattle.model.specs.Words.{State, at}
 use Rattle.model.proofs.CollectedSound.{new-sound}
+use Rattle.model.proofs.Deciding.{parts-address, names-decides}
 use Rattle.model.proofs.Integers.{tag-no-address}
 use Rattle.model.proofs.Keeping.{root-sound, word-sound}
 use Rattle.model.proofs.Leaving.{HasField, step-left}
 use Rattle.model.proofs.Members.{In}
 use Rattle.model.proofs.Placing.{zero-value, place-sound}
 use Rattle.model.proofs.Soundness.{SoundTests}
-use Rattle.model.proofs.Tests.{by-test, never}
+use Rattle.model.proofs.Tests.{never}
 use Rattle.model.proofs.Values.{value-header, plain-value}
 
 module _ (Y : Layout) (s : State) (h : SoundTests Y s) where
-  -- a word that names an object is an address
-  names-address : (w : ℕ) → names Y s w ≡ true → isAddress w ≡ true
-  unfolding names
-  names-address w e =
-      ⊎-elim (λ (p : isAddress w ≡ true). p) (λ (p : isAddress w ≡ false). never refl (sym (rw p at e))) (by-test (isAddress w))
-
-  -- and in a sound state that of a header of the tiling
+  -- a word that names an object is, in a sound state, the address of a header of the tiling
   pub is-header : (k : Kind) (r f : ℕ) → HasField Y s k r f → In (index Y (rootWord s r)) (headers Y s)
-  is-header k r f g = value-header Y (headers Y s) (rootWord s r) (h .roots r (g .root)) (names-address (rootWord s r) (g .named))
+  is-header k r f g =
+      let n = names-decides Y s (rootWord s r) .holds (g .named) in
+      value-header Y (headers Y s) (rootWord s r) (h .roots r (g .root)) (parts-address (rootWord s r) (n .even) (n .notNull))
 
   pub stays-sound : WritesBoth Y → (c : Call) → SoundTests Y (step Y c s .left)
   stays-sound law = step-left Y s (SoundTests Y) (record {

@@ -1,13 +1,13 @@
 -- Further laws: the window, integers and headers, lengths, and that a promise settles everything. Assumes nothing.
-use Prim.Native.Nat.{ℕ, _+_, _-_, _/_, _%_, _≤_, _<_}
+use Prim.Native.Nat.{ℕ, _+_, _-_, _/_, _≤_, _<_}
 use native.Mathlib.Omega.{arith}
 use mathlib.Core.Path.{_≡_, refl, sym, ap, _∙_}
 use mathlib.Core.Logic.{⊎-elim}
-use mathlib.Core.Bool.{true, false, _&&_}
-use lib.Dec.{ltb, leb, eqb}
+use mathlib.Core.Bool.{true, false}
+use lib.Dec.{ltb}
 use lib.ListN.{length, take, drop, length-take, length-drop, length-replicate}
 use lib.Seq.{getD-take, getD-drop}
-use borrow.Author.Tests.{ltb-true, ltb-false, leb-true, le-leb, lt-leb}
+use borrow.Author.Tests.{ltb-true, ltb-false, le-leb, lt-leb}
 use Rattle.model.specs.declared.Kind.{Kind}
 use Rattle.model.specs.declared.Kind.the-variants.{Traced, Untraced}
 use Rattle.model.specs.declared.Refusal.{Refusal}
@@ -18,32 +18,24 @@ use Rattle.model.specs.declared.Place.the-variants as Place
 use Rattle.model.specs.Answers.{outcome, refuse}
 use Rattle.model.specs.Calls.{fresh}
 use Rattle.model.specs.Changes.{noRoot, rootWord, fits}
-use Rattle.model.specs.Graph.{object, Object}
+use Rattle.model.specs.Graph.{object}
 use Rattle.model.specs.Headers.{Layout, tuple}
 use Rattle.model.specs.Laws as Law
 use Rattle.model.specs.Limits.{maxFields, maxInteger}
-use Rattle.model.specs.Objects.{index, fieldCount, size, names}
+use Rattle.model.specs.Objects.{index, fieldCount, names}
 use Rattle.model.specs.Sessions.{machine}
 use Rattle.model.specs.Shape.{badLength, badShape}
-use Rattle.model.specs.Values.{isAddress, inRange, untag}
+use Rattle.model.specs.Values.{inRange, untag}
 use Rattle.model.specs.Window.{window, windowWord}
-use Rattle.model.specs.Words.{State, at, firstWord, free}
+use Rattle.model.specs.Words.{State, at}
+use Rattle.model.proofs.Deciding.{names-decides}
 use Rattle.model.proofs.Headers.{tuple-lawful}
 use Rattle.model.proofs.Integers.{tag-is-odd, tag-word, untag-tag, tag-untag, tag-modulo}
 use Rattle.model.proofs.Lengths.{step-lengths}
 use Rattle.model.proofs.Shape.{shaped, first-in}
-use Rattle.model.proofs.Tests.{by-test, and-both}
+use Rattle.model.proofs.Tests.{by-test}
 
 -- ---- the window
-
--- an object that is named ends at or before the free index
-named-within : (Y : Layout) (s : State) (w : ℕ) → names Y s w ≡ true → index Y w + size Y (s .heap) (index Y w) ≤ free s
-unfolding names
-named-within Y s w e =
-    let before = isAddress w && eqb (w % 4) 0 && leb (firstWord s) (index Y w) && ltb (index Y w) (free s)
-    && Y .isHeader (at (s .heap) (index Y w)) in
-    leb-true (index Y w + size Y (s .heap) (index Y w)) (free s)
-    (and-both before (leb (index Y w + size Y (s .heap) (index Y w)) (free s)) e .1)
 
 object-at : (i j : Index) (n m : ℕ) → Place.Object i n ≡ Place.Object j m → (i ≡ j) × (n ≡ m)
 object-at i j n m e = (cc, cc)
@@ -78,7 +70,7 @@ shows Y r s i n e =
     let o = window-open Y r s i n e in
     let h = shaped s (o .0) in
     let at-i : index Y (rootWord s r) ≡ i .0 = ap (λ z. z .0) (o .2) in
-    let w = named-within Y s (rootWord s r) (o .1) in
+    let w = names-decides Y s (rootWord s r) .holds (o .1) .ends in
     let b = first-in s h in
     let long : i .0 + 1 + n ≤ length (s .heap) = omega (arith, o .3, h .high) in
     let x = length-take n (drop (i .0 + 1) (s .heap)) in

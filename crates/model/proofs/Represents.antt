@@ -6,7 +6,7 @@ use mathlib.Core.Logic.{⊎-elim}
 use mathlib.Core.Bool.{Bool, true, false}
 use mathlib.Core.List.{List}
 use lib.ListN.{length, getD, List·getD-eq-default}
-use borrow.Author.Tests.{eq-eqb, ne-eqb, lt-ltb, le-leb}
+use borrow.Author.Tests.{eq-eqb, ne-eqb}
 use Rattle.model.specs.declared.Refusal.{Refusal}
 use Rattle.model.specs.declared.Refusal.the-variants as Why
 use Rattle.model.specs.Answers.{Outcome, refuse}
@@ -17,12 +17,12 @@ use Rattle.model.specs.GraphCalls.{onGraphRoots}
 use Rattle.model.specs.Changes.{rootWord}
 use Rattle.model.specs.Headers.{Layout}
 use Rattle.model.specs.Represents.{plainWord, hasWord, Encodes, Holds, Represents}
-use Rattle.model.specs.Objects.{address, size, names}
+use Rattle.model.specs.Objects.{address, index, names}
 use Rattle.model.specs.Shape.{badShape}
 use Rattle.model.specs.Soundness.{headers, isValue}
 use Rattle.model.specs.Values.{isOdd, isNull, isAddress}
-use Rattle.model.specs.Words.{State, at, firstWord, free}
-use Rattle.model.proofs.Deciding.{sound-tests}
+use Rattle.model.specs.Words.{State, at}
+use Rattle.model.proofs.Deciding.{names-true, sound-tests}
 use Rattle.model.proofs.Integers.{tag-no-address}
 use Rattle.model.proofs.Keeping.{tile}
 use Rattle.model.proofs.Members.{In}
@@ -98,18 +98,19 @@ module _ (Y : Layout) where
     header-is-address = rw (eq-eqb (address Y i % 2) 0 (omega arith), header-not-null)
 
     pub header-names : names Y s (address Y i) ≡ true
-    unfolding names
     header-names =
         let t = tile Y s h i m in
-        rw (
-          header-is-address,
-          eq-eqb (address Y i % 4) 0 (omega arith),
-          index-address Y i,
-          le-leb (firstWord s) i (t .from),
-          lt-ltb i (free s) (omega (arith, t .within)),
-          t .clear,
-          le-leb (i + size Y (s .heap) i) (free s) (t .within),
-        )
+        let b = first-in s (h .shape) in
+        let e : index Y (address Y i) ≡ i = index-address Y i in
+        names-true Y s (address Y i) (record {
+          even = omega arith;
+          notNull = λ z. omega (arith, t .from);
+          multiple = omega arith;
+          inHalf = rw e (t .from);
+          belowFree = rw e (omega (arith, t .within));
+          clear = rw e (t .clear);
+          ends = rw e (t .within);
+        })
 
   -- what is reachable in the graph is kept, and is one of its objects
   module _ (s : State) (g : Graph) (m : Represents Y s g) where

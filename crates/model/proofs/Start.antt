@@ -94,6 +94,3 @@ module _ (Y : Layout) (e : D3.Session) where
 
   pub begun-half : halfWords (D3.begun (machine Y) e .heap) ≡ e .half
   begun-half = ap (λ s. halfWords (s .heap)) begun-is ∙ blank-half
-
-  pub begun-roots : length (D3.begun (machine Y) e .roots) ≡ e .roots
-  begun-roots = ap (λ s. length (s .roots)) begun-is ∙ roots-length
