@@ -5,13 +5,11 @@ pub mod Tests
 pub mod Members
 pub mod Lists
 pub mod Same
-
 -- words, headers, answers
 pub mod Integers
 pub mod Headers
 pub mod PlainAnswers
 pub mod Telling
-
 -- the order of discovery, for heaps and graphs alike
 pub mod Visits
 pub mod Packed
@@ -19,7 +17,6 @@ pub mod Discovery
 pub mod Meetings
 pub mod Breadth
 pub mod DiscoveryAlike
-
 -- SHAPE, objects, tilings, soundness; the conditions and their tests
 pub mod Shape
 pub mod Objects
@@ -31,7 +28,6 @@ pub mod Values
 pub mod Keeping
 pub mod Placing
 pub mod Deciding
-
 -- a collection: its order, what it leaves, demand 2, and that this leaves no choice
 pub mod Halves
 pub mod Copies
@@ -40,19 +36,16 @@ pub mod Collected
 pub mod CollectedSound
 pub mod Demand2
 pub mod NoChoice
-
 -- its middle
 pub mod Stage
 pub mod During
 pub mod Middle
 pub mod AtP5
-
 -- the calls by their refusals: demand 1
 pub mod Rows
 pub mod Conditions
 pub mod Judged
 pub mod Demand1
-
 -- what the calls leave and look at
 pub mod Leaving
 pub mod Lengths
@@ -62,7 +55,6 @@ pub mod Effects
 pub mod Pinned
 pub mod Looks
 pub mod Laws
-
 -- the object graph, and demand 3
 pub mod GraphWords
 pub mod GraphReach
@@ -79,7 +71,6 @@ pub mod Session
 pub mod Start
 pub mod Standing
 pub mod Demand3
-
 -- wrong machines
 pub mod Rivals
 pub mod RivalsOfEffects
