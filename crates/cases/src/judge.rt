@@ -12,9 +12,8 @@ pub fn sound(heap: &mut [u32], roots: &mut [u32], record: Record) {
 
 // One that is not: an allocation that calls for a collection, too.
 pub fn unsound(heap: &mut [u32], roots: &mut [u32], record: Record) {
-    let checked = run::ask(heap, roots, record, Call::Check);
     let never_fits = calls::allocate(Kind::Traced, 5, 0);
-    run::two(heap, roots, checked, Call::Collect, never_fits);
+    run::three(heap, roots, record, Call::Check, Call::Collect, never_fits);
 }
 
 // Two objects of one field: at 1 one that names itself, at 3 garbage that holds the integer 0. Word 5 is free.

@@ -8,6 +8,7 @@ mod integers;
 mod judge;
 mod lowest;
 mod names;
+mod naming;
 mod objects;
 mod order;
 mod run;

@@ -57,7 +57,7 @@ fn left(heap: &[u32], roots: &[u32], record: Record) {
     show::text(b"\n");
 }
 
-// The last call of a line, or the last two.
+// The last calls of a line.
 pub fn one(heap: &mut [u32], roots: &mut [u32], record: Record, call: Call) {
     let after = ask(heap, roots, record, call);
     left(heap, roots, after);
@@ -66,4 +66,16 @@ pub fn one(heap: &mut [u32], roots: &mut [u32], record: Record, call: Call) {
 pub fn two(heap: &mut [u32], roots: &mut [u32], record: Record, first: Call, last: Call) {
     let next = ask(heap, roots, record, first);
     one(heap, roots, next, last);
+}
+
+pub fn three(
+    heap: &mut [u32],
+    roots: &mut [u32],
+    record: Record,
+    first: Call,
+    next: Call,
+    last: Call,
+) {
+    let after = ask(heap, roots, record, first);
+    two(heap, roots, after, next, last);
 }

@@ -1,10 +1,9 @@
 // Clauses::ofShape: SHAPE in each way that small heaps can show, and the ends of its ranges. All words are 0, and there is
 // one null root.
-use super::calls;
 use super::judge;
+use super::naming;
 use super::run;
 use model::Call;
-use model::Kind;
 use model::Record;
 
 fn sound(title: &[u8], heap: &mut [u32], record: Record) {
@@ -13,37 +12,12 @@ fn sound(title: &[u8], heap: &mut [u32], record: Record) {
     judge::sound(heap, &mut roots, record);
 }
 
-fn on_roots(heap: &mut [u32], roots: &mut [u32], record: Record) -> Record {
-    let made = calls::allocate(Kind::Traced, 0, 0);
-    let checked = run::ask_two(heap, roots, record, Call::Collect, Call::Check);
-    let set = run::ask_two(heap, roots, checked, made, calls::set_integer(0, 0));
-    run::ask_two(heap, roots, set, calls::set_null(0), calls::copy(0, 0))
-}
-
-fn on_objects(heap: &mut [u32], roots: &mut [u32], record: Record) {
-    let stored = run::ask_two(
-        heap,
-        roots,
-        record,
-        calls::load(0, 0, 0),
-        calls::store(0, 0, 0),
-    );
-    let written = run::ask_two(
-        heap,
-        roots,
-        stored,
-        calls::raw_read(0, 0),
-        calls::raw_write(0, 0, 0),
-    );
-    run::two(heap, roots, written, calls::same(0, 0), calls::inspect(0));
-}
-
 // Every call.
 fn misshapen(title: &[u8], heap: &mut [u32], record: Record) {
     let mut roots = [0u32; 1];
     run::name(title);
-    let next = on_roots(heap, &mut roots, record);
-    on_objects(heap, &mut roots, next);
+    let next = run::ask_two(heap, &mut roots, record, Call::Collect, Call::Check);
+    naming::all(heap, &mut roots, next, 0);
 }
 
 // S = 5.

@@ -92,31 +92,23 @@ fn raw() {
     );
 }
 
-fn inspect() {
-    let mut heap = kinds();
-    let mut roots = kinds_roots();
-    run::name(b"inspect, each kind");
+fn inspects(heap: &mut [u32], roots: &mut [u32]) {
     let plain = run::ask_two(
-        &mut heap,
-        &mut roots,
+        heap,
+        roots,
         run::in_a(9),
         calls::inspect(0),
         calls::inspect(1),
     );
-    let next = run::ask_two(
-        &mut heap,
-        &mut roots,
-        plain,
-        calls::inspect(2),
-        calls::inspect(3),
-    );
-    run::two(
-        &mut heap,
-        &mut roots,
-        next,
-        calls::inspect(4),
-        calls::inspect(5),
-    );
+    let next = run::ask_two(heap, roots, plain, calls::inspect(2), calls::inspect(3));
+    run::two(heap, roots, next, calls::inspect(4), calls::inspect(5));
+}
+
+fn inspect() {
+    let mut heap = kinds();
+    let mut roots = kinds_roots();
+    run::name(b"inspect, each kind");
+    inspects(&mut heap, &mut roots);
 }
 
 pub fn cases() {

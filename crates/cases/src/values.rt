@@ -25,8 +25,15 @@ fn named_inside() {
     let mut heap = judge::two_objects();
     let mut roots = [8u32; 1];
     run::name(b"root, a header's shape inside an object");
-    let seen = run::ask(&mut heap, &mut roots, run::in_a(5), calls::inspect(0));
-    judge::sound(&mut heap, &mut roots, seen);
+    let seen = calls::inspect(0);
+    run::three(
+        &mut heap,
+        &mut roots,
+        run::in_a(5),
+        seen,
+        Call::Check,
+        Call::Collect,
+    );
 }
 
 // The first root names the first object.

@@ -1,6 +1,6 @@
--- Each clause of "names an object" and of "sound" broken alone, in document 01's order: all else of that heap is as it
--- should be. Beside them stand cases in which every clause holds. S = 5: half A is words 1 to 5, half B words 6 to 10.
--- What small heaps cannot show, too many words or roots, is in Edges.
+-- Each clause of "names an object" and of "sound" broken alone, in document 01's order: all else of that heap is
+-- as it should be. Beside them stand cases in which every clause holds. S = 5: half A is words 1 to 5, half B
+-- words 6 to 10. What small heaps cannot show, too many words or roots, is in Edges.
 use Prim.Native.Nat.{ℕ}
 use mathlib.Core.Path.{_≡_, refl}
 use mathlib.Core.List.{List, [], _∷_, _++_, map}
@@ -13,8 +13,8 @@ use Rattle.model.specs.declared.Call.{Call}
 use Rattle.model.specs.declared.Call.the-variants as Ask
 use Rattle.model.specs.declared.Told.{Told}
 use Rattle.model.specs.Words.{State}
-use Rattle.model.specs.Worked.{Case, case, unchanged, expected, ran}
-use Rattle.model.specs.Worked.{done, refused, gives, holdsNull, holdsInteger, holdsTraced, holdsUntraced, state}
+use Rattle.model.specs.Worked.{Case, case, unchanged, expected, ran, state}
+use Rattle.model.specs.Worked.{done, refused, gives, holdsNull, holdsInteger, holdsTraced, holdsUntraced}
 
 -- ---- names
 
@@ -26,7 +26,7 @@ asks = Ask.Inspect 0 ∷ Ask.RawRead 0 0 ∷ Ask.RawWrite 0 0 9 ∷ Ask.Store 0 
 abbrev pub unnamed : Told → State → Case
 unnamed a s = unchanged s asks (a ∷ replicate 4 (refused 5))
 
--- a header h at 1 and the fields 1 and 0; the free index is 4, where an object of two fields ends; root 0 holds w
+-- a header h at 1 and the fields 1 and 0; the free index, 4, is where an object of two fields ends; a root w
 abbrev pub pairA : ℕ → ℕ → State
 pairA h w = state A 4 (0 ∷ h ∷ 1 ∷ 0 ∷ replicate 7 0) (w ∷ [])
 
@@ -54,11 +54,11 @@ ofNames =
     (pairA 4 6
     -- its index lies in the current half: in half B word 1, which is 0, lies before it
     ∷ pairB 1 4
-    -- below the free index: word 4 is at it, word 5 past it, word 6 in the idle half, and no words are further on
+    -- below the free index: word 4 is at it, word 5 past it, word 6 in the idle half, and the others in no half
     ∷ pairA 4 16 ∷ pairA 4 20 ∷ pairA 4 24 ∷ pairA 4 44 ∷ pairA 4 0xfffffffc
     -- the word there has bit 0 clear: word 2 is 1
     ∷ pairA 4 8
-    -- n + 1 words from there end at or before the free index: three fields end past it, and so does the largest n
+    -- n + 1 words from there end at or before the free index: three fields end past it, and the largest n does
     ∷ pairA 6 4 ∷ pairA 0xfffffffe 4 ∷ [])
 
 -- ---- sound
@@ -67,19 +67,21 @@ ofNames =
 abbrev pub isSound : State → ℕ → State → Case
 isSound s L e = case s (Ask.Check ∷ Ask.Collect ∷ []) (gives 1 ∷ gives L ∷ []) e
 
--- it is not: a collection is DAMAGED, and so is an allocation that calls for one, and would be ROOM in a sound heap
+-- it is not: a collection is DAMAGED, and so is an allocation that calls for one (in a sound heap it is ROOM)
 abbrev pub isUnsound : State → Case
 isUnsound s =
     unchanged s (Ask.Check ∷ Ask.Collect ∷ Ask.Allocate Traced 5 0 ∷ []) (gives 0 ∷ refused 8 ∷ refused 8 ∷ [])
 
+-- every call that names a root: the root r, and the root 0 where it names a second
+abbrev pub naming : ℕ → List Call
+naming r =
+    Ask.Allocate Traced 0 r ∷ Ask.SetInteger r (pos 0) ∷ Ask.SetNull r ∷ Ask.Copy r 0 ∷ Ask.Copy 0 r
+    ∷ Ask.Load r 0 0 ∷ Ask.Load 0 0 r ∷ Ask.Store r 0 0 ∷ Ask.Store 0 0 r ∷ Ask.RawRead r 0 ∷ Ask.RawWrite r 0 0
+    ∷ Ask.Same r 0 ∷ Ask.Same 0 r ∷ Ask.Inspect r ∷ []
+
 -- SHAPE applies, whatever is asked
 abbrev pub isMisshapen : State → Case
-isMisshapen s =
-    unchanged s
-    (Ask.Collect ∷ Ask.Check ∷ Ask.Allocate Traced 0 0 ∷ Ask.SetInteger 0 (pos 0) ∷ Ask.SetNull 0
-    ∷ Ask.Copy 0 0 ∷ Ask.Load 0 0 0 ∷ Ask.Store 0 0 0 ∷ Ask.RawRead 0 0 ∷ Ask.RawWrite 0 0 0 ∷ Ask.Same 0 0
-    ∷ Ask.Inspect 0 ∷ [])
-    (replicate 12 (refused 1))
+isMisshapen s = unchanged s (Ask.Collect ∷ Ask.Check ∷ naming 0) (replicate 16 (refused 1))
 
 -- n words, all 0, and a null root: whatever is used of them is objects with no fields
 abbrev pub zeros : ℕ → Half → ℕ → State
@@ -150,8 +152,9 @@ ofRoots =
     isSound (rootA 5) 0 (state B 6 (replicate 11 0) (5 ∷ []))
     ∷ isSound (rootA 0) 0 (zeros 11 B 6)
     ∷ isSound (rootA 12) 2 (oneB 2 1)
-    -- no header of the tiling, although it names an object: the first field, 4, has the shape of one with two fields
-    ∷ unchanged (rootA 8) (Ask.Inspect 0 ∷ Ask.Check ∷ Ask.Collect ∷ []) (holdsTraced 2 ∷ gives 0 ∷ refused 8 ∷ [])
+    -- no header of the tiling, although it names an object: word 2, 4, has the shape of one with two fields
+    ∷ unchanged (rootA 8) (Ask.Inspect 0 ∷ Ask.Check ∷ Ask.Collect ∷ [])
+    (holdsTraced 2 ∷ gives 0 ∷ refused 8 ∷ [])
     ∷ map isUnsound
     -- even and no multiple of 4, though it lies in a header's word
     (rootA 6

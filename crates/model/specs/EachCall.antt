@@ -1,5 +1,5 @@
--- Each call beside the paper's cases, in the order of document 01's "The calls"; a root named twice; the order of a
--- collection; and of two refusals the lower. S = 8 unless said.
+-- Each call beside the paper's cases, in the order of document 01's "The calls"; a root named twice; the order of
+-- a collection; and of two refusals the lower. S = 8 unless said.
 use Prim.Native.Nat.{ℕ}
 use mathlib.Core.Path.{_≡_, refl}
 use mathlib.Core.List.{List, [], _∷_, _++_, map}
@@ -7,12 +7,12 @@ use lib.ListN.{set, replicate}
 use lib.IntN.{pos, negsuc}
 use Rattle.model.specs.declared.Half.the-variants.{A, B}
 use Rattle.model.specs.declared.Kind.the-variants.{Traced, Untraced}
-use Rattle.model.specs.declared.Call.{Call}
 use Rattle.model.specs.declared.Call.the-variants as Ask
 use Rattle.model.specs.Words.{State}
 use Rattle.model.specs.Worked.{Case, case, one, unchanged, expected, ran}
 use Rattle.model.specs.Worked.{done, refused, gives, holdsNull, holdsInteger, holdsTraced, holdsUntraced}
 use Rattle.model.specs.Worked.{state, blank, p5, p5′, p5With, oneNull}
+use Rattle.model.specs.Clauses.{naming}
 
 -- ---- the calls
 
@@ -20,8 +20,8 @@ use Rattle.model.specs.Worked.{state, blank, p5, p5′, p5With, oneNull}
 abbrev pub junk : ℕ → List ℕ → State
 junk f R = state A f (replicate 17 7) R
 
--- a full half: an untraced object that holds 7 and x, a traced one with three nulls, an untraced one with no fields;
--- the roots hold null, 10, -5 and these: the second, the first, the third
+-- a full half: an untraced object that holds 7 and x, a traced one with three nulls, an untraced one with no
+-- fields; the roots hold null, 10, -5, and name the second of them, the first, the third
 abbrev pub kinds : ℕ → State
 kinds x =
     state A 9 (0 ∷ 0x80000004 ∷ 7 ∷ x ∷ 6 ∷ 0 ∷ 0 ∷ 0 ∷ 0x80000000 ∷ replicate 8 0)
@@ -96,13 +96,6 @@ ordered =
     ∷ []
 
 -- ---- the lowest number that applies
-
--- every call that names a root, with the root r in every place where one is named, and the root 0 in the other
-abbrev pub naming : ℕ → List Call
-naming r =
-    Ask.Allocate Traced 0 r ∷ Ask.SetInteger r (pos 0) ∷ Ask.SetNull r ∷ Ask.Copy r 0 ∷ Ask.Copy 0 r
-    ∷ Ask.Load r 0 0 ∷ Ask.Load 0 0 r ∷ Ask.Store r 0 0 ∷ Ask.Store 0 0 r ∷ Ask.RawRead r 0 ∷ Ask.RawWrite r 0 0
-    ∷ Ask.Same r 0 ∷ Ask.Same 0 r ∷ Ask.Inspect r ∷ []
 
 abbrev pub lowest : List Case
 lowest =

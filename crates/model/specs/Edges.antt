@@ -1,5 +1,6 @@
--- Each limit of document 01 at its value, one below and one above: numbers as the checker computes them, and as they
--- should be. SHAPE looks at the lengths of heap and roots alone, so that no run of a million words has to stand here.
+-- Each limit of document 01 at its value, one below and one above: numbers as the checker computes them, and as
+-- they should be. SHAPE looks at the lengths of heap and roots alone, so that no run of a million words has to
+-- stand here.
 use Prim.Native.Nat.{ℕ}
 use mathlib.Core.Path.{_≡_, refl}
 use mathlib.Core.Bool.{Bool, true, false}
