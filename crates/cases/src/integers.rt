@@ -1,20 +1,17 @@
 // P1 and P2: integers and their words.
-use super::run;
-use model::Call;
+use super::calls;
+use super::start;
 
-fn set(value: i64) -> Call {
-    Call::SetInteger {
-        to: 0,
-        value: value,
-    }
+// Set into root 0, and inspected there.
+fn seen(title: &[u8], value: i64) {
+    start::two_on_blank(title, 0, calls::set_integer(0, value), calls::inspect(0));
 }
 
 pub fn cases() {
-    run::on_blank(b"P1, 10", set(10));
-    run::on_blank(b"P1, 0", set(0));
-    run::seen_on_blank(b"P1, -1", set(-1));
-    run::seen_on_blank(b"P2, largest", set(1073741823));
-    run::seen_on_blank(b"P2, smallest", set(-1073741824));
-    run::on_blank(b"P2, one too many", set(1073741824));
-    run::on_blank(b"P2, one too few", set(-1073741825));
+    seen(b"P1, 10", 10);
+    seen(b"P1, 0", 0);
+    seen(b"P1, -1", -1);
+    seen(b"P2, largest", 1073741823);
+    seen(b"P2, smallest", -1073741824);
+    start::on_blank(b"P2, one too many", calls::set_integer(0, 1073741824));
 }

@@ -1,28 +1,47 @@
-// Every worked heap of document 01 through the compiled calls, S = 8. A line for each: its name, the answers in numbers,
-// and the record, words and roots that are left. The expected lines stand in the file `stdout`, and the gate compares.
-use model::Kind;
-
+// Every case of the definitions' tables in Worked, Clauses and EachCall, in their order, through the compiled calls. A line for
+// each: its name, the answers in numbers, and the record, words and roots that are left. The expected lines, worked out from
+// document 01, stand in the file `stdout`, and the gate compares.
+mod calls;
 mod collections;
+mod fresh;
 mod integers;
+mod judge;
+mod lowest;
+mod names;
+mod naming;
 mod objects;
+mod order;
 mod run;
+mod shape;
+mod single;
+mod start;
+mod values;
+mod words;
 
-fn fresh() {
-    run::on_blank(b"Fresh, 7 fields", run::allocate(Kind::Traced, 7, 0));
-    run::on_blank(b"Fresh, 8 fields", run::allocate(Kind::Traced, 8, 0));
-    run::on_blank(
-        b"Fresh, largest count",
-        run::allocate(Kind::Traced, 1073741823, 0),
-    );
-    run::on_blank(
-        b"Fresh, count too large",
-        run::allocate(Kind::Traced, 1073741824, 0),
-    );
-}
-
-fn main() {
+fn worked() {
     integers::cases();
     objects::cases();
     collections::cases();
-    fresh();
+    fresh::cases();
+}
+
+fn clauses() {
+    names::cases();
+    shape::cases();
+    words::cases();
+    values::roots();
+    values::fields();
+}
+
+fn each_call() {
+    single::cases();
+    single::twice();
+    order::cases();
+    lowest::cases();
+}
+
+fn main() {
+    worked();
+    clauses();
+    each_call();
 }

@@ -2,28 +2,22 @@
 use model::Call;
 use model::Half;
 use model::Index;
-use model::Kind;
 use model::Record;
 use numbers::told;
 use session::step;
 
-pub fn start(free: usize) -> Record {
+// Half A, and half B, with a free index.
+pub fn in_a(free: usize) -> Record {
     Record {
         half: Half::A,
         free: Index(free),
     }
 }
 
-// Words 1 to 6: an object that holds 0, one that names itself and holds 10, one with no fields.
-pub fn p5() -> [u32; 17] {
-    [0, 2, 1, 4, 12, 21, 0, 0, 0, 0, 0, 0, 0, 0, 0, 0, 0]
-}
-
-pub fn allocate(kind: Kind, fields: usize, to: usize) -> Call {
-    Call::Allocate {
-        kind: kind,
-        fields: fields,
-        to: to,
+pub fn in_b(free: usize) -> Record {
+    Record {
+        half: Half::B,
+        free: Index(free),
     }
 }
 
@@ -41,8 +35,19 @@ pub fn ask(heap: &mut [u32], roots: &mut [u32], record: Record, call: Call) -> R
     done.record
 }
 
+pub fn ask_two(
+    heap: &mut [u32],
+    roots: &mut [u32],
+    record: Record,
+    first: Call,
+    last: Call,
+) -> Record {
+    let next = ask(heap, roots, record, first);
+    ask(heap, roots, next, last)
+}
+
 // What is left, to the end of the line.
-pub fn left(heap: &[u32], roots: &[u32], record: Record) {
+fn left(heap: &[u32], roots: &[u32], record: Record) {
     show::text(b"; ");
     show::record(record);
     show::text(b"; heap");
@@ -52,32 +57,25 @@ pub fn left(heap: &[u32], roots: &[u32], record: Record) {
     show::text(b"\n");
 }
 
+// The last calls of a line.
 pub fn one(heap: &mut [u32], roots: &mut [u32], record: Record, call: Call) {
     let after = ask(heap, roots, record, call);
     left(heap, roots, after);
 }
 
-// One call on an empty heap with one root.
-pub fn on_blank(title: &[u8], call: Call) {
-    let mut heap = [0u32; 17];
-    let mut roots = [0u32; 1];
-    name(title);
-    one(&mut heap, &mut roots, start(1), call);
+pub fn two(heap: &mut [u32], roots: &mut [u32], record: Record, first: Call, last: Call) {
+    let next = ask(heap, roots, record, first);
+    one(heap, roots, next, last);
 }
 
-// The same, and root 0 inspected after it.
-pub fn seen_on_blank(title: &[u8], call: Call) {
-    let mut heap = [0u32; 17];
-    let mut roots = [0u32; 1];
-    name(title);
-    let next = ask(&mut heap, &mut roots, start(1), call);
-    one(&mut heap, &mut roots, next, Call::Inspect { root: 0 });
-}
-
-// One call on P5's words, with `first` in root 0 and the second object in root 1.
-pub fn on_p5(title: &[u8], first: u32, call: Call) {
-    let mut heap = p5();
-    let mut roots = [first, 12];
-    name(title);
-    one(&mut heap, &mut roots, start(7), call);
+pub fn three(
+    heap: &mut [u32],
+    roots: &mut [u32],
+    record: Record,
+    first: Call,
+    next: Call,
+    last: Call,
+) {
+    let after = ask(heap, roots, record, first);
+    two(heap, roots, after, next, last);
 }

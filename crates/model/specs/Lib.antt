@@ -19,6 +19,9 @@ pub mod Sessions
 pub mod Graph
 pub mod GraphCalls
 pub mod Worked
+pub mod Clauses
+pub mod EachCall
+pub mod Edges
 pub mod Conditions
 pub mod Refusals
 pub mod Demand1

@@ -1,0 +1,59 @@
+// EachCall::lowest: the lowest number that applies is given. S = 8.
+use super::calls;
+use super::naming;
+use super::run;
+use super::start;
+use model::Kind;
+
+fn root() {
+    let mut heap = [0u32; 17];
+    let mut roots = [0u32; 1];
+    run::name(b"lowest, ROOT");
+    naming::all(&mut heap, &mut roots, run::in_a(1), 1);
+}
+
+fn shape() {
+    let mut heap = [0u32; 17];
+    let mut none = [0u32; 1];
+    run::name(b"lowest, SHAPE before ROOT");
+    naming::all(&mut heap, &mut none[..0], run::in_a(0), 0);
+}
+
+// No word is free, and the words are no heap.
+fn count() {
+    let mut heap = [7u32; 17];
+    let mut roots = [0u32; 1];
+    let too_many = calls::allocate(Kind::Traced, 1073741824, 0);
+    let most = calls::allocate(Kind::Traced, 1073741823, 0);
+    run::name(b"lowest, COUNT before DAMAGED before ROOM");
+    run::two(&mut heap, &mut roots, run::in_a(9), too_many, most);
+}
+
+pub fn cases() {
+    root();
+    shape();
+    let too_many = calls::allocate(Kind::Traced, 1073741824, 1);
+    let too_large = calls::set_integer(1, 1073741824);
+    start::two_on_blank(
+        b"lowest, ROOT before COUNT and RANGE",
+        0,
+        too_many,
+        too_large,
+    );
+    count();
+    let load = calls::load(0, 9, 0);
+    start::two_on_blank(
+        b"lowest, OBJECT before FIELD",
+        0,
+        load,
+        calls::raw_read(0, 9),
+    );
+    let read = calls::raw_read(1, 9);
+    start::two_on_p5(
+        b"lowest, KIND before FIELD",
+        24,
+        12,
+        read,
+        calls::load(1, 9, 0),
+    );
+}
