@@ -1,5 +1,7 @@
 -- The proofs, by subject. A statement of specs/ is proved in the file of its name.
 
+-- cases and limits, computed
+pub mod AllCases
 -- lists, tests and records
 pub mod Tests
 pub mod Members

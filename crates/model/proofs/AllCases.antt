@@ -1,0 +1,19 @@
+-- The tables of cases and limits, together. The checker takes this file first, by its name: a wrong definition is refused by a value
+-- that comes out wrong, before it is refused by a proof that no longer fits. Assumes nothing.
+use mathlib.Core.Path.{_≡_}
+use mathlib.Core.List.{map}
+use Rattle.model.specs.Worked as Worked
+use Rattle.model.specs.Worked.{ran, expected}
+use Rattle.model.specs.Clauses as Clauses
+use Rattle.model.specs.EachCall as EachCall
+use Rattle.model.specs.Edges as Edges
+
+-- the paper's cases, each clause broken alone, each call, and each limit
+pub record AllCases : Type 0 where
+  pub worked : map ran Worked.cases ≡ map expected Worked.cases
+  pub broken : map ran Clauses.clauses ≡ map expected Clauses.clauses
+  pub called : map ran EachCall.calls ≡ map expected EachCall.calls
+  pub kept : map (λ e. e .computed) Edges.edges ≡ map (λ e. e .expected) Edges.edges
+
+pub all-cases : AllCases
+all-cases = record { worked = Worked.worked; broken = Clauses.broken; called = EachCall.called; kept = Edges.kept }
