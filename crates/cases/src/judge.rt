@@ -1,4 +1,5 @@
-// Check and collect, and what else is asked where a clause of "sound" is broken. S = 5 but for the heap's length.
+// Check and collect, and what else is asked where a clause of "sound" is broken; the heaps in which it is.
+// S = 5.
 use super::calls;
 use super::run;
 use model::Call;

@@ -1,6 +1,6 @@
 // EachCall::lowest: the lowest number that applies is given. S = 8.
 use super::calls;
-use super::naming;
+use super::root_calls;
 use super::run;
 use super::start;
 use model::Kind;
@@ -9,14 +9,14 @@ fn root() {
     let mut heap = [0u32; 17];
     let mut roots = [0u32; 1];
     run::name(b"lowest, ROOT");
-    naming::all(&mut heap, &mut roots, run::in_a(1), 1);
+    root_calls::all(&mut heap, &mut roots, run::in_a(1), 1);
 }
 
 fn shape() {
     let mut heap = [0u32; 17];
     let mut none = [0u32; 1];
     run::name(b"lowest, SHAPE before ROOT");
-    naming::all(&mut heap, &mut none[..0], run::in_a(0), 0);
+    root_calls::all(&mut heap, &mut none[..0], run::in_a(0), 0);
 }
 
 // No word is free, and the words are no heap.

@@ -1,6 +1,7 @@
-// Every case of the definitions' tables in Worked, Clauses and EachCall, in their order, through the compiled calls. A line for
-// each: its name, the answers in numbers, and the record, words and roots that are left. The expected lines, worked out from
-// document 01, stand in the file `stdout`, and the gate compares.
+// Every case of the definitions' tables in Worked, Unnamed, Unsound and EachCall, in their order, through
+// the compiled calls. A line for each: its name, the answers in numbers, and the record, words and roots
+// that are left. The expected lines, worked out from document 01, stand in the file `stdout`, and the gate
+// compares.
 mod calls;
 mod collections;
 mod fresh;
@@ -8,9 +9,9 @@ mod integers;
 mod judge;
 mod lowest;
 mod names;
-mod naming;
 mod objects;
 mod order;
+mod root_calls;
 mod run;
 mod shape;
 mod single;
@@ -25,8 +26,7 @@ fn worked() {
     fresh::cases();
 }
 
-fn clauses() {
-    names::cases();
+fn unsound() {
     shape::cases();
     words::cases();
     values::roots();
@@ -42,6 +42,7 @@ fn each_call() {
 
 fn main() {
     worked();
-    clauses();
+    names::cases();
+    unsound();
     each_call();
 }

@@ -1,4 +1,4 @@
-// Clauses::ofNames: each clause of "names an object" broken alone. S = 5.
+// Unnamed::namings: each clause of "names an object" broken alone. S = 5.
 use super::calls;
 use super::run;
 use model::Record;

@@ -1,7 +1,7 @@
-// Clauses::ofShape: SHAPE in each way that small heaps can show, and the ends of its ranges. All words are 0, and there is
-// one null root.
+// Unsound::ofShape: SHAPE in each way that small heaps can show, and the ends of its ranges. All words are
+// 0, and there is one null root.
 use super::judge;
-use super::naming;
+use super::root_calls;
 use super::run;
 use model::Call;
 use model::Record;
@@ -17,7 +17,7 @@ fn misshapen(title: &[u8], heap: &mut [u32], record: Record) {
     let mut roots = [0u32; 1];
     run::name(title);
     let next = run::ask_two(heap, &mut roots, record, Call::Collect, Call::Check);
-    naming::all(heap, &mut roots, next, 0);
+    root_calls::all(heap, &mut roots, next, 0);
 }
 
 // S = 5.

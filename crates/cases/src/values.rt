@@ -1,4 +1,5 @@
-// Clauses::ofRoots and Clauses::ofFields: each root and each field of a traced object is a value, a raw word is any word. S = 5.
+// Unsound::ofRoots and Unsound::ofFields: each root and each field of a traced object is a value; a raw
+// word is any word. S = 5.
 use super::calls;
 use super::judge;
 use super::run;

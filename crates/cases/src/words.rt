@@ -1,4 +1,4 @@
-// Clauses::ofWords: word 0, the idle half, the free words and the tiling. S = 5.
+// Unsound::ofWords: word 0, the idle half, the free words and the tiling. S = 5.
 ghost use Prim.Native.Nat.{_<_};
 use super::judge;
 use super::run;

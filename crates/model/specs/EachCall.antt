@@ -1,5 +1,5 @@
--- Each call beside the paper's cases, in the order of document 01's "The calls"; a root named twice; the order of
--- a collection; and of two refusals the lower. S = 8 unless said.
+-- Each call beside the paper's cases, in the order of document 01's "The calls"; a root named twice; the
+-- order of a collection; and of two refusals the lower. S = 8 unless said.
 use Prim.Native.Nat.{ℕ}
 use mathlib.Core.Path.{_≡_, refl}
 use mathlib.Core.List.{List, [], _∷_, _++_, map}
@@ -12,7 +12,7 @@ use Rattle.model.specs.Words.{State}
 use Rattle.model.specs.Worked.{Case, case, one, unchanged, expected, ran}
 use Rattle.model.specs.Worked.{done, refused, gives, holdsNull, holdsInteger, holdsTraced, holdsUntraced}
 use Rattle.model.specs.Worked.{state, blank, p5, p5′, p5With, oneNull}
-use Rattle.model.specs.Clauses.{naming}
+use Rattle.model.specs.Unsound.{rootCalls}
 
 -- ---- the calls
 
@@ -100,9 +100,9 @@ ordered =
 abbrev pub lowest : List Case
 lowest =
     -- ROOT, before OBJECT: there is one root, and it is null
-    unchanged oneNull (naming 1) (replicate 14 (refused 2))
+    unchanged oneNull (rootCalls 1) (replicate 14 (refused 2))
     -- SHAPE before ROOT
-    ∷ unchanged (state A 0 blank []) (naming 0) (replicate 14 (refused 1))
+    ∷ unchanged (state A 0 blank []) (rootCalls 0) (replicate 14 (refused 1))
     -- ROOT before COUNT and before RANGE
     ∷ unchanged oneNull (Ask.Allocate Traced 1_073_741_824 1 ∷ Ask.SetInteger 1 (pos 1_073_741_824) ∷ [])
     (refused 2 ∷ refused 2 ∷ [])

@@ -19,7 +19,8 @@ pub mod Sessions
 pub mod Graph
 pub mod GraphCalls
 pub mod Worked
-pub mod Clauses
+pub mod Unnamed
+pub mod Unsound
 pub mod EachCall
 pub mod Edges
 pub mod Conditions

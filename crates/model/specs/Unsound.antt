@@ -1,67 +1,21 @@
--- Each clause of "names an object" and of "sound" broken alone, in document 01's order: all else of that heap is
--- as it should be. Beside them stand cases in which every clause holds. S = 5: half A is words 1 to 5, half B
--- words 6 to 10. What small heaps cannot show, too many words or roots, is in Edges.
+-- Each clause of "sound" broken alone, in document 01's order: all else of that heap is as it should be.
+-- Beside them stand sound heaps. S = 5: half A is words 1 to 5, half B words 6 to 10. What small heaps
+-- cannot show, too many words or roots, is in Edges.
 use Prim.Native.Nat.{ℕ}
 use mathlib.Core.Path.{_≡_, refl}
+use mathlib.Core.Bool.{false}
 use mathlib.Core.List.{List, [], _∷_, _++_, map}
 use lib.ListN.{set, replicate}
 use lib.IntN.{pos}
 use Rattle.model.specs.declared.Half.{Half}
 use Rattle.model.specs.declared.Half.the-variants.{A, B}
-use Rattle.model.specs.declared.Kind.the-variants.{Traced, Untraced}
+use Rattle.model.specs.declared.Kind.the-variants.{Traced}
 use Rattle.model.specs.declared.Call.{Call}
 use Rattle.model.specs.declared.Call.the-variants as Ask
-use Rattle.model.specs.declared.Told.{Told}
 use Rattle.model.specs.Words.{State}
-use Rattle.model.specs.Worked.{Case, case, unchanged, expected, ran, state}
-use Rattle.model.specs.Worked.{done, refused, gives, holdsNull, holdsInteger, holdsTraced, holdsUntraced}
-
--- ---- names
-
--- every call that asks what root 0 names: inspect, then those on a field of each kind
-abbrev pub asks : List Call
-asks = Ask.Inspect 0 ∷ Ask.RawRead 0 0 ∷ Ask.RawWrite 0 0 9 ∷ Ask.Store 0 0 0 ∷ Ask.Load 0 0 0 ∷ []
-
--- the word names no object, as inspect says it: OBJECT, or null or an integer
-abbrev pub unnamed : Told → State → Case
-unnamed a s = unchanged s asks (a ∷ replicate 4 (refused 5))
-
--- a header h at 1 and the fields 1 and 0; the free index, 4, is where an object of two fields ends; a root w
-abbrev pub pairA : ℕ → ℕ → State
-pairA h w = state A 4 (0 ∷ h ∷ 1 ∷ 0 ∷ replicate 7 0) (w ∷ [])
-
--- the same in half B, a traced object whose first field is f
-abbrev pub pairB : ℕ → ℕ → State
-pairB f w = state B 9 (replicate 6 0 ++ 4 ∷ f ∷ 0 ∷ 0 ∷ 0 ∷ []) (w ∷ [])
-
-abbrev pub ofNames : List Case
-ofNames =
-    -- a traced object's address, in either half: it is stored in the first field, and loaded again
-    case (pairA 4 4) asks (holdsTraced 2 ∷ refused 6 ∷ refused 6 ∷ done ∷ done ∷ [])
-    (state A 4 (0 ∷ 4 ∷ 4 ∷ 0 ∷ replicate 7 0) (4 ∷ []))
-    ∷ case (pairB 1 24) asks (holdsTraced 2 ∷ refused 6 ∷ refused 6 ∷ done ∷ done ∷ []) (pairB 24 24)
-    -- an untraced object's: the first raw word is read, and 9 written
-    ∷ case (pairA 0x80000004 4) asks (holdsUntraced 2 ∷ gives 1 ∷ done ∷ refused 6 ∷ refused 6 ∷ [])
-    (state A 4 (0 ∷ 0x80000004 ∷ 9 ∷ 0 ∷ replicate 7 0) (4 ∷ []))
-    -- no tiling is asked for: the pair's second field, 0, has the shape of a traced object with no fields
-    ∷ unchanged (pairA 4 12) asks (holdsTraced 0 ∷ refused 6 ∷ refused 6 ∷ refused 7 ∷ refused 7 ∷ [])
-    -- even: 5 lies in word 1 too, and is the integer 2
-    ∷ unnamed (holdsInteger (pos 2)) (pairA 4 5)
-    -- not 0
-    ∷ unnamed holdsNull (pairA 4 0)
-    ∷ map (unnamed (refused 5))
-    -- a multiple of 4: 6 lies in word 1 too
-    (pairA 4 6
-    -- its index lies in the current half: in half B word 1, which is 0, lies before it
-    ∷ pairB 1 4
-    -- below the free index: word 4 is at it, word 5 past it, word 6 in the idle half, and the others in no half
-    ∷ pairA 4 16 ∷ pairA 4 20 ∷ pairA 4 24 ∷ pairA 4 44 ∷ pairA 4 0xfffffffc
-    -- the word there has bit 0 clear: word 2 is 1
-    ∷ pairA 4 8
-    -- n + 1 words from there end at or before the free index: three fields end past it, and the largest n does
-    ∷ pairA 6 4 ∷ pairA 0xfffffffe 4 ∷ [])
-
--- ---- sound
+use Rattle.model.specs.Headers.{tuple}
+use Rattle.model.specs.Soundness.{sound}
+use Rattle.model.specs.Worked.{Case, case, unchanged, expected, ran, state, refused, gives, holdsTraced}
 
 -- the heap is sound: L, and what its collection leaves
 abbrev pub isSound : State → ℕ → State → Case
@@ -73,15 +27,15 @@ isUnsound s =
     unchanged s (Ask.Check ∷ Ask.Collect ∷ Ask.Allocate Traced 5 0 ∷ []) (gives 0 ∷ refused 8 ∷ refused 8 ∷ [])
 
 -- every call that names a root: the root r, and the root 0 where it names a second
-abbrev pub naming : ℕ → List Call
-naming r =
+abbrev pub rootCalls : ℕ → List Call
+rootCalls r =
     Ask.Allocate Traced 0 r ∷ Ask.SetInteger r (pos 0) ∷ Ask.SetNull r ∷ Ask.Copy r 0 ∷ Ask.Copy 0 r
     ∷ Ask.Load r 0 0 ∷ Ask.Load 0 0 r ∷ Ask.Store r 0 0 ∷ Ask.Store 0 0 r ∷ Ask.RawRead r 0 ∷ Ask.RawWrite r 0 0
     ∷ Ask.Same r 0 ∷ Ask.Same 0 r ∷ Ask.Inspect r ∷ []
 
 -- SHAPE applies, whatever is asked
 abbrev pub isMisshapen : State → Case
-isMisshapen s = unchanged s (Ask.Collect ∷ Ask.Check ∷ naming 0) (replicate 16 (refused 1))
+isMisshapen s = unchanged s (Ask.Collect ∷ Ask.Check ∷ rootCalls 0) (replicate 16 (refused 1))
 
 -- n words, all 0, and a null root: whatever is used of them is objects with no fields
 abbrev pub zeros : ℕ → Half → ℕ → State
@@ -115,6 +69,19 @@ oneB h x = state B 8 (replicate 6 0 ++ h ∷ x ∷ replicate 3 0) (24 ∷ [])
 abbrev pub oneA : ℕ → ℕ → State
 oneA h x = state A 3 (0 ∷ h ∷ x ∷ replicate 8 0) (4 ∷ [])
 
+-- SHAPE applies to these
+abbrev pub misshapes : List State
+misshapes =
+    -- the heap's length is even; below 3; both
+    zeros 10 A 1 ∷ zeros 12 A 1 ∷ zeros 1 A 1 ∷ zeros 0 A 1
+    -- the free index lies before its range, or past it
+    ∷ zeros 11 A 0 ∷ zeros 11 B 5 ∷ zeros 11 A 7 ∷ zeros 11 B 12 ∷ []
+
+-- they are not sound; no call tells, for each says SHAPE first
+pub misshapen : map (sound tuple) misshapes ≡ replicate 8 false
+unfolding ran
+misshapen = refl
+
 abbrev pub ofShape : List Case
 ofShape =
     -- the free index from the half's first word to one past its last; the smallest heap
@@ -123,11 +90,7 @@ ofShape =
     ∷ isSound (zeros 11 B 6) 0 (zeros 11 A 1)
     ∷ isSound (zeros 11 B 11) 0 (zeros 11 A 1)
     ∷ isSound (zeros 3 A 1) 0 (zeros 3 B 2)
-    ∷ map isMisshapen
-    -- the heap's length is even; below 3; both
-    (zeros 10 A 1 ∷ zeros 12 A 1 ∷ zeros 1 A 1 ∷ zeros 0 A 1
-    -- the free index lies before its range, or past it
-    ∷ zeros 11 A 0 ∷ zeros 11 B 5 ∷ zeros 11 A 7 ∷ zeros 11 B 12 ∷ [])
+    ∷ map isMisshapen misshapes
 
 -- word 0, the idle half, the free words and the tiling
 abbrev pub ofWords : List Case
@@ -183,11 +146,9 @@ ofFields =
     ∷ isSound (rawA 4 12) 2 (oneB 0x80000002 4)
     ∷ []
 
--- ---- all of them
+abbrev pub judgements : List Case
+judgements = ofShape ++ ofWords ++ ofRoots ++ ofFields
 
-abbrev pub clauses : List Case
-clauses = ofNames ++ ofShape ++ ofWords ++ ofRoots ++ ofFields
-
-pub broken : map ran clauses ≡ map expected clauses
+pub unsound : map ran judgements ≡ map expected judgements
 unfolding ran
-broken = refl
+unsound = refl
