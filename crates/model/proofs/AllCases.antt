@@ -4,16 +4,18 @@ use mathlib.Core.Path.{_≡_}
 use mathlib.Core.List.{map}
 use Rattle.model.specs.Worked as Worked
 use Rattle.model.specs.Worked.{ran, expected}
-use Rattle.model.specs.Clauses as Clauses
+use Rattle.model.specs.Unnamed as Unnamed
+use Rattle.model.specs.Unsound as Unsound
 use Rattle.model.specs.EachCall as EachCall
 use Rattle.model.specs.Edges as Edges
 
--- the paper's cases, each clause broken alone, each call, and each limit
+-- the paper's cases, each clause of "names an object" and of "sound" broken alone, each call, and each limit
 pub record AllCases : Type 0 where
   pub worked : map ran Worked.cases ≡ map expected Worked.cases
-  pub broken : map ran Clauses.clauses ≡ map expected Clauses.clauses
+  pub unnamed : map ran Unnamed.namings ≡ map expected Unnamed.namings
+  pub unsound : map ran Unsound.judgements ≡ map expected Unsound.judgements
   pub called : map ran EachCall.calls ≡ map expected EachCall.calls
   pub kept : map (λ e. e .computed) Edges.edges ≡ map (λ e. e .expected) Edges.edges
 
 pub all-cases : AllCases
-all-cases = record { worked = Worked.worked; broken = Clauses.broken; called = EachCall.called; kept = Edges.kept }
+all-cases = record { worked = Worked.worked; unnamed = Unnamed.unnamed; unsound = Unsound.unsound; called = EachCall.called; kept = Edges.kept }
