@@ -4,9 +4,8 @@ use mathlib.Core.Path.{_≡_}
 use mathlib.Core.Bool.{false}
 use mathlib.Core.List.{List}
 use Rattle.model.specs.declared.Record.{Record}
-use Rattle.model.specs.Words.{State}
-use Rattle.model.specs.Headers.{Layout}
-use Rattle.model.specs.Window.{window, windowWord}
+use Rattle.model.specs.declared.Place.{Place}
+use Rattle.model.specs.Window.{windowWord}
 use Rattle.crossing.specs.declared.CRecord.{CRecord}
 use Rattle.crossing.specs.Numbers.{Given, given, noHalf, numbersOf, recordOf, windowNumbers, wordAt}
 
@@ -20,6 +19,6 @@ pub record RecordLaw : Type 0 where
   pub there : (q : Record) → recordOf (numbersOf q) ≡ q
   pub back : (c : CRecord) → noHalf c ≡ false → numbersOf (recordOf c) ≡ c
 
--- the word of a window that was opened on this heap is the one that the model's window shows
-abbrev pub WordLaw : Layout → Type 0
-WordLaw Y = (r f : ℕ) (s : State) → wordAt (s .heap) (windowNumbers (window Y r s)) f ≡ windowWord (s .heap) (window Y r s) f
+-- the word that C gets by a window's numbers is the one that the model's window shows: on any words, at any place
+abbrev pub WordLaw : Type 0
+WordLaw = (H : List ℕ) (p : Place) (f : ℕ) → wordAt H (windowNumbers p) f ≡ windowWord H p f
