@@ -1,5 +1,5 @@
 -- A law for each return of the functions that only call others, over what those answered. Assumes nothing.
-use Prim.Native.Nat.{ℕ, _+_, _-_}
+use Prim.Native.Nat.{ℕ, _+_, _-_, _≤_}
 use native.Mathlib.Omega.{arith}
 use mathlib.Core.Path.{_≡_, sym, ap, _∙_, subst}
 use mathlib.Core.Bool.{Bool, true, false, _&&_}
@@ -40,23 +40,37 @@ module _ (H : List ℕ) (p : Part) (S : ℕ) where
   unfolding isZeroAround
   around-idle z b e = let s : p .marks .0 + S - p .marks .0 ≡ S = omega arith in rw (s, eq-eqb (at H 0) 0 z, e)
 
-  pub around-dirty : at H 0 ≡ 0 → false ≡ all isNull (run H (p .marks .0) S) → false ≡ isZeroAround H p S
-  around-dirty z e = sym (around-idle z false e)
+  -- n words of the half of the marks were tested, with the answer b, and m words from the free index on; that these lie in the
+  -- heap settles for the prover which n and m they are
+  module _ (z : at H 0 ≡ 0)
+      (n : ℕ) (within : p .marks .0 + n ≤ length H) (b : Bool) (e : b ≡ all isNull (run H (p .marks .0) n)) (half : n ≡ S) where
+    idle-is : b ≡ all isNull (run H (p .marks .0) S)
+    idle-is = e ∙ ap (λ (k : ℕ). all isNull (run H (p .marks .0) k)) half
 
-  pub around-rest : at H 0 ≡ 0 → true ≡ all isNull (run H (p .marks .0) S) → allZero H (p .free .0) (p .first .0 + S) ≡ isZeroAround H p S
-  around-rest z e = sym (around-idle z true e)
+    pub around-dirty : b ≡ false → false ≡ isZeroAround H p S
+    around-dirty d = sym (around-idle z false (sym d ∙ idle-is))
+
+    pub around-rest : b ≡ true → (m : ℕ) → p .free .0 + m ≤ length H → (r : Bool) → r ≡ all isNull (run H (p .free .0) m) → m ≡ p .first .0 + S - p .free .0
+        → r ≡ isZeroAround H p S
+    around-rest d m behind r g rest =
+        g ∙ ap (λ (k : ℕ). all isNull (run H (p .free .0) k)) rest ∙ sym (around-idle z true (sym d ∙ idle-is))
 
 -- ---- all roots, then all fields
 module _ (Y : Layout) (H roots : List ℕ) (p : Part) where
-  pub values-bad : false ≡ all (isValueByMarks Y H p) (run roots 0 (length roots)) → false ≡ allAreValuesByMarks Y H roots p
-  unfolding allAreValuesByMarks
-  values-bad e = rw (← (rw (take-length roots) at e))
+  -- n roots were tested, with the answer b
+  module _ (n : ℕ) (within : 0 + n ≤ length roots) (b : Bool)
+      (e : b ≡ all (isValueByMarks Y H p) (run roots 0 n)) (count : n ≡ length roots) where
+    roots-are : b ≡ all (isValueByMarks Y H p) roots
+    roots-are = e ∙ ap (λ (l : List ℕ). all (isValueByMarks Y H p) l) (ap (run roots 0) count ∙ take-length roots)
 
-  pub values-good : true ≡ all (isValueByMarks Y H p) (run roots 0 (length roots)) → (r : Bool)
-      → r ≡ all (fieldsAreValuesByMarks Y H p) (headersOf Y H p)
-      → r ≡ allAreValuesByMarks Y H roots p
-  unfolding allAreValuesByMarks
-  values-good e r g = rw (← (rw (take-length roots) at e)) g
+    pub values-bad : b ≡ false → false ≡ allAreValuesByMarks Y H roots p
+    unfolding allAreValuesByMarks
+    values-bad d = rw (← (sym d ∙ roots-are))
+
+    pub values-good : b ≡ true → (r : Bool) → r ≡ all (fieldsAreValuesByMarks Y H p) (headersOf Y H p)
+        → r ≡ allAreValuesByMarks Y H roots p
+    unfolding allAreValuesByMarks
+    values-good d r g = rw (← (sym d ∙ roots-are)) g
 
 -- ---- what marking left
 module _ (Y : Layout) (H : List ℕ) (p : Part) (H′ : List ℕ) (stop : ℕ) (is : marking H′ stop ≡ marked Y H p) where

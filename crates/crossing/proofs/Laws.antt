@@ -1,24 +1,20 @@
 -- The laws of specs/Laws. Assumes nothing.
-use Prim.Native.Nat.{ℕ, _+_, _≤_, _<_}
+use Prim.Native.Nat.{ℕ, _+_, _≤_}
 use native.Mathlib.Omega.{arith}
 use mathlib.Core.Path.{_≡_, refl, sym, ap, _∙_}
 use mathlib.Core.Logic.{⊎-elim}
 use mathlib.Core.Bool.{true, false}
 use lib.Dec.{leb}
-use lib.ListN.{length, drop, length-take, length-drop}
-use borrow.Author.Tests.{leb-true, leb-false, le-leb, lt-leb, ltb-false, eq-eqb, ne-eqb}
+use lib.ListN.{length}
+use borrow.Author.Tests.{leb-true, leb-false, le-leb, ltb-false, eq-eqb, ne-eqb}
 use Rattle.model.specs.declared.Half.{Half}
 use Rattle.model.specs.declared.Half.the-variants.{A, B}
 use Rattle.model.specs.declared.Index.{Index}
-use Rattle.model.specs.declared.Place.{Place}
 use Rattle.model.specs.declared.Place.the-variants as Place
-use Rattle.model.specs.Words.{State}
-use Rattle.model.specs.Headers.{Layout}
-use Rattle.model.specs.Window.{window, windowWord}
 use Rattle.model.proofs.Tests.{by-test, same?}
-use Rattle.model.proofs.Laws.{window-law}
+use Rattle.model.proofs.Laws.{word-from-count, word-past-end, word-itself, word-hidden}
 use Rattle.crossing.specs.declared.CRecord.{CRecord}
-use Rattle.crossing.specs.Numbers.{Given, given, noHalf, numbersOf, recordOf, windowNumbers, wordAt}
+use Rattle.crossing.specs.Numbers.{Given, given, noHalf, numbersOf, recordOf, wordAt}
 use Rattle.crossing.specs.Laws as Law
 
 pub settles : Law.Settles
@@ -47,21 +43,16 @@ record-back c e =
 pub record-law : Law.RecordLaw
 record-law = record { half = λ q. record-half (q .half) (q .free); there = λ q. record-there (q .half) (q .free); back = record-back }
 
-module _ (Y : Layout) (r f : ℕ) (s : State) where
-  word-same : (p : Place) → window Y r s ≡ p → wordAt (s .heap) (windowNumbers p) f ≡ windowWord (s .heap) p f
-  unfolding wordAt
-  word-same (Place.Refused k) e = rw (le-leb 0 f (omega arith)) (sym (window-law Y .hides s k .word f))
-  word-same (Place.Object i n) e =
-      let w = window-law Y .shows r s i n e in
-      ⊎-elim
-      (λ (b : leb n f ≡ true). rw b (sym (w .past f (leb-true n f b))))
-      (λ (b : leb n f ≡ false).
-      let l : f < n = leb-false n f b in
-      let x = length-take n (drop (i .0 + 1) (s .heap)) in
-      let y = length-drop (i .0 + 1) (s .heap) in
-      let m : i .0 + 1 + f < length (s .heap) = omega (arith, w .words) in
-      rw (b, lt-leb (length (s .heap)) (i .0 + 1 + f) m) (sym (w .word f l)))
-      (by-test (leb n f))
-
-pub word-law : (Y : Layout) → Law.WordLaw Y
-word-law Y r f s = word-same Y r f s (window Y r s) refl
+pub word-law : Law.WordLaw
+unfolding wordAt
+word-law H (Place.Refused k) f = rw (le-leb 0 f (omega arith)) (sym (word-hidden H k f))
+word-law H (Place.Object i n) f =
+    ⊎-elim
+    (λ (b : leb n f ≡ true). rw b (sym (word-from-count H i n f (leb-true n f b))))
+    (λ (b : leb n f ≡ false).
+    ⊎-elim
+    (λ (e : leb (length H) (i .0 + 1 + f) ≡ true). rw (b, e) (sym (word-past-end H i n f (leb-true _ _ e))))
+    (λ (e : leb (length H) (i .0 + 1 + f) ≡ false).
+    rw (b, e) (sym (word-itself H i n f (leb-false n f b) (leb-false _ _ e))))
+    (by-test (leb (length H) (i .0 + 1 + f))))
+    (by-test (leb n f))

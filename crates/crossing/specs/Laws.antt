@@ -10,7 +10,7 @@ use Rattle.model.specs.declared.Place.{Place}
 use Rattle.model.specs.Words.{State}
 use Rattle.model.specs.Headers.{Layout}
 use Rattle.model.specs.Answers.{told}
-use Rattle.model.specs.Window.{window, windowWord}
+use Rattle.model.specs.Window.{windowWord}
 use Rattle.model.specs.Sessions.{step}
 use Rattle.crossing.specs.declared.CRecord.{CRecord}
 use Rattle.crossing.specs.Numbers.{Given, given, noHalf, numbersOf, recordOf, result, collected, answer, seen, windowNumbers, wordAt}
@@ -25,9 +25,9 @@ pub record RecordLaw : Type 0 where
   pub there : (q : Record) → recordOf (numbersOf q) ≡ q
   pub back : (c : CRecord) → noHalf c ≡ false → numbersOf (recordOf c) ≡ c
 
--- the word of a window that was opened on this heap is the one that the model's window shows
-abbrev pub WordLaw : Layout → Type 0
-WordLaw Y = (r f : ℕ) (s : State) → wordAt (s .heap) (windowNumbers (window Y r s)) f ≡ windowWord (s .heap) (window Y r s) f
+-- the word that C gets by a window's numbers is the one that the model's window shows: on any words, at any place
+abbrev pub WordLaw : Type 0
+WordLaw = (H : List ℕ) (p : Place) (f : ℕ) → wordAt H (windowNumbers p) f ≡ windowWord H p f
 
 -- answers can be told apart in what C gets: two answers of one call that are returned alike are equal, whatever the records.
 -- Inspect has a struct of its own; of the others refusal and value are enough.

@@ -4,6 +4,7 @@ use native.Mathlib.Omega.{arith}
 use mathlib.Core.Path.{_≡_, refl, sym, ap, _∙_}
 use mathlib.Core.Logic.{⊎-elim}
 use mathlib.Core.Bool.{true, false}
+use mathlib.Core.List.{List}
 use lib.Dec.{ltb}
 use lib.ListN.{length, take, drop, length-take, length-drop, length-replicate}
 use lib.Seq.{getD-take, getD-drop}
@@ -15,6 +16,7 @@ use Rattle.model.specs.declared.Place.{Place}
 use Rattle.model.specs.declared.Index.{Index}
 use Rattle.model.specs.declared.Refusal.the-variants as Why
 use Rattle.model.specs.declared.Place.the-variants as Place
+use Rattle.model.specs.declared.Answer.the-variants as Says
 use Rattle.model.specs.Answers.{outcome, refuse}
 use Rattle.model.specs.Calls.{fresh}
 use Rattle.model.specs.Changes.{noRoot, rootWord, fits}
@@ -64,8 +66,36 @@ window-open Y r s i n e =
     (by-test (noRoot s r)))
     (by-test (badShape s))
 
-shows : (Y : Layout) (r : ℕ) (s : State) (i : Index) (n : ℕ) → window Y r s ≡ Place.Object i n → Law.Shows Y s r i n
+-- what a window answers at a field number, on any words and at any place: FIELD from the count on and past the end of the
+-- words, and else the word itself
+module _ (H : List ℕ) (i : Index) (n f : ℕ) where
+  pub word-from-count : n ≤ f → windowWord H (Place.Object i n) f ≡ Says.Refused Why.Field
+  unfolding windowWord
+  word-from-count l = let x = length-take n (drop (i .0 + 1) H) in rw (le-leb (length (take n (drop (i .0 + 1) H))) f (omega arith))
+
+  pub word-past-end : length H ≤ i .0 + 1 + f → windowWord H (Place.Object i n) f ≡ Says.Refused Why.Field
+  unfolding windowWord
+  word-past-end l =
+      let x = length-take n (drop (i .0 + 1) H) in
+      let y = length-drop (i .0 + 1) H in
+      rw (le-leb (length (take n (drop (i .0 + 1) H))) f (omega arith))
+
+  pub word-itself : f < n → i .0 + 1 + f < length H → windowWord H (Place.Object i n) f ≡ Says.Number (at H (i .0 + 1 + f))
+  unfolding windowWord
+  word-itself l m =
+      let x = length-take n (drop (i .0 + 1) H) in
+      let y = length-drop (i .0 + 1) H in
+      rw (
+        lt-leb (length (take n (drop (i .0 + 1) H))) f (omega arith),
+        getD-take n (drop (i .0 + 1) H) f 0 l,
+        getD-drop (i .0 + 1) H f 0,
+      )
+
+pub word-hidden : (H : List ℕ) (k : Refusal) (f : ℕ) → windowWord H (Place.Refused k) f ≡ Says.Refused Why.Field
 unfolding windowWord
+word-hidden H k f = rw (le-leb 0 f (omega arith))
+
+shows : (Y : Layout) (r : ℕ) (s : State) (i : Index) (n : ℕ) → window Y r s ≡ Place.Object i n → Law.Shows Y s r i n
 shows Y r s i n e =
     let o = window-open Y r s i n e in
     let h = shaped s (o .0) in
@@ -81,13 +111,12 @@ shows Y r s i n e =
       fields = sym (o .3) ∙ ap (fieldCount Y (s .heap)) at-i;
       words = len;
       count = refl;
-      word = λ f l. rw (lt-leb n f l, getD-take n (drop (i .0 + 1) (s .heap)) f 0 l, getD-drop (i .0 + 1) (s .heap) f 0);
-      past = λ f l. rw (le-leb n f l);
+      word = λ f l. word-itself (s .heap) i n f l (omega (arith, long, l));
+      past = word-from-count (s .heap) i n;
     }
 
 hides : (s : State) (k : Refusal) → Law.Hides s k
-unfolding windowWord
-hides s k = record { words = refl; count = refl; word = λ f. rw (le-leb 0 f (omega arith)) }
+hides s k = record { words = refl; count = refl; word = word-hidden (s .heap) k }
 
 pub window-law : (Y : Layout) → Law.WindowLaw Y
 window-law Y = record { shows = shows Y; hides = hides }

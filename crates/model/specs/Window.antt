@@ -3,7 +3,7 @@ use Prim.Native.Nat.{ℕ, _+_}
 use mathlib.Core.Bool.{not, cond}
 use mathlib.Core.List.{List, [], _∷_}
 use lib.Dec.{leb}
-use lib.ListN.{take, drop}
+use lib.ListN.{length, take, drop}
 use Rattle.model.specs.declared.Refusal.the-variants as Why
 use Rattle.model.specs.declared.Answer.{Answer}
 use Rattle.model.specs.declared.Answer.the-variants as Says
@@ -32,6 +32,6 @@ abbrev pub windowCount : Place → ℕ
 windowCount (Object i n) = n
 windowCount (Refused k) = 0
 
--- the word at a field number, or FIELD
+-- the word at a field number, or FIELD where it shows none: from the count on, and past the end of the words
 unfoldable pub windowWord : List ℕ → Place → ℕ → Answer
-windowWord H p f = cond (leb (windowCount p) f) (Says.Refused Why.Field) (Says.Number (at (shown H p) f))
+windowWord H p f = cond (leb (length (shown H p)) f) (Says.Refused Why.Field) (Says.Number (at (shown H p) f))

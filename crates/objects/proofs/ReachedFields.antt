@@ -4,7 +4,7 @@ use native.Mathlib.Omega.{arith}
 use mathlib.Core.Path.{_≡_, refl, sym, ap, _∙_}
 use mathlib.Core.Bool.{Bool, true, false, not, cond, _||_, or-self}
 use lib.Dec.{leb}
-use lib.ListN.{length}
+use lib.ListN.{length, set}
 use borrow.Author.Tests.{leb-false, not-false}
 use Rattle.model.specs.declared.Index.{Index}
 use Rattle.model.specs.declared.Kind.{Kind}
@@ -12,11 +12,12 @@ use Rattle.model.specs.declared.Kind.the-variants.{Traced, Untraced}
 use Rattle.model.specs.declared.Refusal.{Refusal}
 use Rattle.model.specs.declared.Refusal.the-variants as Why
 use Rattle.model.specs.declared.Answer.the-variants as Says
+use Rattle.model.specs.declared.Answered.{Answered}
 use Rattle.model.specs.Words.{State, at}
 use Rattle.model.specs.Headers.{Layout}
 use Rattle.model.specs.Objects.{index, kind, fieldCount, fieldIndex, names}
 use Rattle.model.specs.Shape.{badShape}
-use Rattle.model.specs.Answers.{Outcome, says, refuse}
+use Rattle.model.specs.Answers.{Outcome, says, outcome, refuse}
 use Rattle.model.specs.Changes.{noRoot, rootWord, withRoot, withWord}
 use Rattle.model.specs.Calls.{isOfKind, onField, load, store, rawRead, rawWrite}
 use Rattle.naming.specs.declared.Field.{Field}
@@ -24,6 +25,7 @@ use Rattle.naming.specs.declared.Field.the-variants.{At, Refused}
 use Rattle.naming.specs.Named.{fieldOf}
 use Rattle.objects.specs.Reached.{reached}
 use Rattle.naming.proofs.NamedObjects.{free-in-heap, named-ends}
+use Rattle.access.proofs.Refusing.{said}
 use Rattle.access.proofs.RootNumbers.{both-below}
 
 -- what a call comes to that does `next` with the index of its field
@@ -41,6 +43,14 @@ pub by-refusal : {o : Outcome State} {x : Field} {k : Refusal} (s : State) (next
     → o ≡ answered x s next → x ≡ Refused k → says (Says.Refused k) s ≡ o
 unfolding answered
 by-refusal s next e f = sym (e ∙ ap (λ (x : Field). answered x s next) f)
+
+-- the number that is answered, or written, as the code has it
+pub same-number : {x y : ℕ} (s : State) → x ≡ y → says (Says.Number x) s ≡ says (Says.Number y) s
+same-number s e = ap (λ (x : ℕ). says (Says.Number x) s) e
+
+pub written : {r : Answered} {o : Outcome State} {y : ℕ} (s : State) (i x : ℕ) → r ≡ record { answer = Says.Done; «record» = s .«record» }
+    → says Says.Done (withWord s i y) ≡ o → x ≡ y → outcome r (set (s .heap) i x) (s .roots) ≡ o
+written s i x e f n = said _ _ e (ap (λ (x : ℕ). says Says.Done (withWord s i x)) n ∙ f)
 
 answered-refuse : (b : Bool) (k : Refusal) (x : Field) (s : State) (next : ℕ → Outcome State)
     → answered (cond b (Refused k) x) s next ≡ refuse b k s (answered x s next)
@@ -98,6 +108,10 @@ module _ (Y : Layout) where
       → rawWrite Y r f x s ≡ answered (reached Y Untraced r f r s) s (λ i. says Says.Done (withWord s i x))
   unfolding rawWrite
   raw-write-reached r f x s = on-reached-once Untraced r f s (λ i. says Says.Done (withWord s i x))
+
+  -- the field number as the code has it
+  pub same-field : {x : Field} (k : Kind) (r f q : ℕ) (s : State) {f′ : ℕ} → x ≡ reached Y k r f′ q s → f′ ≡ f → x ≡ reached Y k r f q s
+  same-field k r f q s e n = e ∙ ap (λ (f : ℕ). reached Y k r f q s) n
 
   pub reaches : (k : Kind) (r f q : ℕ) (s : State) (i : Index) → reached Y k r f q s ≡ At i → Reaches s r q i
   unfolding fieldOf reached

@@ -99,7 +99,8 @@ pub fn raw_read(
     match found {
         Field::At(index) => {
             let at = index.0;
-            say(Answer::Number(heap[at]), record)
+            let word = heap[at];
+            say(Answer::Number(word), record)
         }
         Field::Refused(refusal) => say(Answer::Refused(refusal), record),
     }
@@ -117,8 +118,8 @@ pub fn raw_write(
 ) -> Answered
     ensures { λ r. ⌜ outcome r (now (heap .exit)) (now (roots .entry)) ≡ Calls.rawWrite Layouts.tuple object field number (lent (now (heap .entry)) (now (roots .entry)) «record») ⌝ }
 {
-    let found = reach(heap, roots, record, Kind::Untraced, object, field, object);
-    match found {
+    let target = reach(heap, roots, record, Kind::Untraced, object, field, object);
+    match target {
         Field::At(index) => {
             let at = index.0;
             heap[at] = number;

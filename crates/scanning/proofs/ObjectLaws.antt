@@ -103,15 +103,19 @@ module _ (Y : Layout) where
       pub fields-may : isTraced (Y .kindOf (at h i)) ≡ true → MayPassFields Y h (i + 1) m f
       fields-may t = rw count (record { whole = object-whole; safe = header-safe n 0 (rw t) (rw t) })
 
-      pub traced-is : isTraced (Y .kindOf (at h i)) ≡ true → (h′ : List ℕ) (f′ : ℕ)
+      -- e is where the code goes on
+      pub traced-is : isTraced (Y .kindOf (at h i)) ≡ true → (h′ : List ℕ) (e f′ : ℕ)
           → after h′ (between (i + 1 + m) f′) ≡ run Y m h (scan (i + 1) m 0 f)
-          → after h′ (between (i + 1 + m) f′) ≡ run Y (size Y h i) h (between i f)
-      traced-is t h′ f′ e = e ∙ ap (λ (x : ℕ). run Y x h (scan (i + 1) x 0 f)) count ∙ header-run n 0 (rw t) (rw t)
+          → e ≡ i + size Y h i → after h′ (between e f′) ≡ run Y (size Y h i) h (between i f)
+      traced-is t h′ e f′ q next =
+          ap (λ (x : ℕ). after h′ (between x f′)) (omega arith)
+          ∙ q ∙ ap (λ (x : ℕ). run Y x h (scan (i + 1) x 0 f)) count ∙ header-run n 0 (rw t) (rw t)
 
-      pub untraced-is : isTraced (Y .kindOf (at h i)) ≡ false → after h (between (i + 1 + m) f) ≡ run Y (size Y h i) h (between i f)
-      untraced-is t =
-          ap (λ (x : ℕ). after h (between (i + 1 + x) f)) count
-          ∙ sym (skipped n h (i + 1) f object-whole) ∙ header-run 0 n (rw t) (rw t)
+    pub untraced-is : isTraced (Y .kindOf (at h i)) ≡ false → (e : ℕ) → e ≡ i + size Y h i
+        → after h (between e f) ≡ run Y (size Y h i) h (between i f)
+    untraced-is t e next =
+        ap (λ (x : ℕ). after h (between x f)) (omega arith)
+        ∙ sym (skipped n h (i + 1) f object-whole) ∙ header-run 0 n (rw t) (rw t)
 
   -- ---- object after object
 

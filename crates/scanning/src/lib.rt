@@ -1,7 +1,8 @@
 // The scan of the copies: the fields of traced objects are renamed, raw words are passed at once.
 ghost use mathlib.Core.Path.{_≡_};
-ghost use Prim.Native.Nat.{_+_, _-_};
+ghost use Prim.Native.Nat.{_+_, _-_, _≤_};
 ghost use lib.ListN.{length};
+ghost use Rattle.model.specs.Limits.{maxFields};
 ghost use Rattle.model.specs.Headers.{tuple};
 ghost use Rattle.model.specs.Objects.{size};
 ghost use Rattle.scanning.specs.Scanning.{freed, after, scan, between, ended, fieldPassed, run, MayPassField, MayPassFields, MayPassObject, SafeRun};
@@ -47,6 +48,14 @@ fn pass_fields(heap: &mut [u32], first: Index, n: usize, free: Index) -> Index
     free
 }
 
+// The words of an object of n fields. One with no field is an object too, its header 0, and the scan goes on behind it.
+fn size_of(n: usize) -> usize
+    requires { ⌜ n ≤ maxFields ⌝ }
+    ensures { λ r. ⌜ r ≡ n + 1 ⌝ }
+{
+    n + 1
+}
+
 // Passes the object at an index.
 fn pass_object(heap: &mut [u32], object: Index, free: Index) -> Passed
     requires { ⌜ MayPassObject tuple (now heap) (object .0) (free .0) ⌝ }
@@ -56,7 +65,7 @@ fn pass_object(heap: &mut [u32], object: Index, free: Index) -> Passed
     let header = heap[at];
     let n = Tuple::count_of(header);
     let fields = at + 1;
-    let next = fields + n;
+    let next = at + size_of(n);
     if Tuple::is_traced(header) {
         let free = pass_fields(heap, Index(fields), n, free);
         return Passed {

@@ -25,8 +25,8 @@ pub fn count_of(place: Place) -> u32
     }
 }
 
-// The word at a field number of the object at a place, or FIELD. Any words and any place will do: a field that the count
-// allows, and that lies past the end of the words, reads 0. A place that was found in these words has no such field.
+// The word at a field number of the object at a place, or FIELD. Any words and any place will do: FIELD too for a field that
+// lies past the end of the words, which no place has that was found in them.
 pub fn word_at(words: &[u32], place: Place, field: usize) -> Answer
     ensures { λ r. ⌜ r ≡ Windows.windowWord (now (words .entry)) place field ⌝ }
 {
@@ -38,12 +38,13 @@ pub fn word_at(words: &[u32], place: Place, field: usize) -> Answer
                 return Answer::Refused(Refusal::Field);
             }
             if words.len() <= at {
-                return Answer::Number(0);
+                return Answer::Refused(Refusal::Field);
             }
             if words.len() - at - 1 <= field {
-                return Answer::Number(0);
+                return Answer::Refused(Refusal::Field);
             }
-            Answer::Number(words[at + 1 + field])
+            let word = words[at + 1 + field];
+            Answer::Number(word)
         }
         Place::Refused(_) => Answer::Refused(Refusal::Field),
     }

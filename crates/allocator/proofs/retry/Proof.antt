@@ -1,6 +1,6 @@
 -- `allocator::retry` meets its contract: one case of the definition for each return, over what the collection left.
 use mathlib.Core.Path.{_≡_, _∙_, sym}
-use mathlib.Core.Bool.{true}
+use mathlib.Core.Bool.{true, or-false}
 use native.Mathlib.Omega.{arith}
 use Rattle.model.specs.Headers.{tuple}
 use Rattle.model.specs.Words.{State, lent}
@@ -32,7 +32,8 @@ origin c =
 checked : (c : tie.After-after) → sound tuple (start (origin c)) ≡ true
 checked c =
     let tested = c .before .before .before .before .before .before .before .before in
-    sym (tested .before .before .before .is-sound .ensures .0) ∙ tested .if1 .taken
+    let asked = tested .before .before .before .is-sound in
+    sym (asked .ensures .0) ∙ cc (or-false (asked .result), tested .if1 .taken)
 
 left : (c : tie.After-after) → let l = c .before .before .before .before .before .collect-sound in
     lent (l .last .0) (l .last .1 .0) (l .result .«record») ≡ collected tuple (start (origin c))
@@ -46,8 +47,8 @@ is-sound-requires c κs = search needs
 
 collect-sound-requires : tie.Need-collect-sound-requires
 collect-sound-requires c κs =
-    let q = c .before .before .before .before .before .is-sound .ensures in
-    rw (q .1) (sym (q .0) ∙ c .before .before .if1 .taken)
+    let asked = c .before .before .before .before .before .is-sound in
+    rw (asked .ensures .1) (sym (asked .ensures .0) ∙ cc (or-false (asked .result), c .before .before .if1 .taken))
 
 spare-of-requires : tie.Need-spare-of-requires
 spare-of-requires c κs = may-spare _ (left-shaped tuple _ (checked c) _ (left c))
@@ -93,8 +94,9 @@ same-length-6 c = search needs
 
 returns-3 : tie.Need-returns-3
 returns-3 c =
-    let q = c .before .before .before .is-sound .ensures in
-    rw (q .1) (sym (retried-damaged tuple _ _ _ _ (sym (q .0) ∙ c .if1 .left)))
+    let asked = c .before .before .before .is-sound in
+    rw (asked .ensures .1)
+    (sym (retried-damaged tuple _ _ _ _ (sym (asked .ensures .0) ∙ cc (or-false (asked .result), c .if1 .left))))
 
 pub retry-spec : {M : Type 1} → statement M
 retry-spec =

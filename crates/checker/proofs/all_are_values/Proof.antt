@@ -1,5 +1,5 @@
 -- `checker::all_are_values` meets its contract: a law for each return.
-use mathlib.Core.Path.{sym, _∙_}
+use native.Mathlib.Omega.{arith}
 use borrow.Author.Tests.{not-true, not-false}
 use Rattle.model.specs.Headers.{tuple}
 use Rattle.checker.proofs.Returns.{values-bad, values-good}
@@ -15,14 +15,19 @@ are-values-requires : tie.Need-are-values-requires
 are-values-requires c κs = search needs
 
 returns : tie.Need-returns
-returns c = values-bad tuple _ _ _ (sym (not-true _ (c .if1 .taken)) ∙ c .before .are-values .ensures)
+returns c =
+    let tested = c .before in
+    values-bad tuple _ _ _ _ (are-values-requires (tested .before) (tested .are-values .lifetimes) .0)
+    _ (tested .are-values .ensures) (omega arith) (not-true _ (c .if1 .taken))
 
 all-fields-are-values-requires : tie.Need-all-fields-are-values-requires
 all-fields-are-values-requires c κs = search needs
 
 returns-2 : tie.Need-returns-2
 returns-2 c =
-    values-good tuple _ _ _ (sym (not-false _ (c .before .if1 .left)) ∙ c .before .before .are-values .ensures)
+    let tested = c .before .before in
+    values-good tuple _ _ _ _ (are-values-requires (tested .before) (tested .are-values .lifetimes) .0)
+    _ (tested .are-values .ensures) (omega arith) (not-false _ (c .before .if1 .left))
     _ (c .all-fields-are-values .ensures)
 
 pub all-are-values-spec : {M : Type 1} → statement M

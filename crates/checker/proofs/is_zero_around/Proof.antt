@@ -1,5 +1,5 @@
 -- `checker::is_zero_around` meets its contract: a case law for each return.
-use mathlib.Core.Path.{sym, _∙_}
+use native.Mathlib.Omega.{arith}
 use borrow.Author.Needs.{needs}
 use borrow.Author.Tests.{not-true, not-false}
 use Rattle.checker.proofs.Returns.{around-first, around-dirty, around-rest}
@@ -13,7 +13,7 @@ shared-slice-read-if1 : tie.Need-shared-slice-read-if1
 shared-slice-read-if1 c = search needs
 
 returns : tie.Need-returns
-returns c = around-first _ _ _ (c .if1 .taken)
+returns c = around-first (c .before .before .before .args .heap .now) _ _ (omega (arith, c .if1))
 
 all-zero-requires : tie.Need-all-zero-requires
 all-zero-requires c κs = search needs
@@ -22,8 +22,9 @@ returns-2 : tie.Need-returns-2
 returns-2 c =
     let zero = c .before .before in
     let a = zero .before .before .before .args in
-    around-dirty (a .heap .now) (a .part) (a .words) (zero .if1 .left)
-    (sym (not-true _ (c .if2 .taken)) ∙ c .before .all-zero .ensures)
+    around-dirty (a .heap .now) (a .part) (a .words) (omega (arith, zero .if1))
+    _ (all-zero-requires zero (c .before .all-zero .lifetimes))
+    _ (c .before .all-zero .ensures) (omega arith) (not-true _ (c .if2 .taken))
 
 add-all-zero : tie.Need-add-all-zero
 add-all-zero c = search needs
@@ -38,9 +39,12 @@ returns-3 : tie.Need-returns-3
 returns-3 c =
     let clean = c .before .before .before in
     let tested = clean .before in
-    c .all-zero2 .ensures
-    ∙ around-rest _ _ _ (tested .before .if1 .left)
-    (sym (not-false _ (clean .if2 .left)) ∙ tested .all-zero .ensures)
+    let zero = tested .before in
+    let a = zero .before .before .before .args in
+    around-rest (a .heap .now) (a .part) (a .words) (omega (arith, zero .if1))
+    _ (all-zero-requires zero (tested .all-zero .lifetimes))
+    _ (tested .all-zero .ensures) (omega arith) (not-false _ (clean .if2 .left))
+    _ (all-zero-requires-2 (c .before) (c .all-zero2 .lifetimes)) _ (c .all-zero2 .ensures) (omega arith)
 
 pub is-zero-around-spec : {M : Type 1} → statement M
 is-zero-around-spec =

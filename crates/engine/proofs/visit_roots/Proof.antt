@@ -1,5 +1,5 @@
 -- `engine::visit_roots` meets its contract. The invariant: the roots renamed so far, with what the others give, are what all gave.
-use Prim.Native.Nat.{_-_, _≤_}
+use Prim.Native.Nat.{_-_, _≤_, _<_}
 use native.Mathlib.Omega.{arith}
 use mathlib.Core.Path.{_≡_, refl, sym, _∙_}
 use lib.ListN.{length, take, drop, length-set}
@@ -30,7 +30,9 @@ slice-read-word : tie.Need-slice-read-word Inv-loop μ-loop
 slice-read-word c = omega arith
 
 rename-requires : tie.Need-rename-requires Inv-loop μ-loop
-rename-requires c κs = root-may _ _ _ _ _ (c .before .before .loop-test .taken) (c .before .before .before .loop .inv .2)
+rename-requires c κs =
+    let l = c .before .before .before .loop in
+    root-may _ _ (l .roots) _ (l .i) (omega (arith, c .before .before .loop-test)) (l .inv .2)
 
 mul-roots : tie.Need-mul-roots Inv-loop μ-loop
 mul-roots c = omega arith
@@ -47,7 +49,7 @@ loop-less c = simp length-set (omega arith)
 loop-again : tie.Need-loop-again Inv-loop μ-loop
 loop-again c =
     let l = c .before .before .before .before .before .before .before .loop in
-    let m = c .before .before .before .before .before .before .loop-test .taken in
+    let m : l .i < length (l .roots) = omega (arith, c .before .before .before .before .before .before .loop-test) in
     let e = c .before .before .before .rename .ensures in (
       simp length-set (omega arith),
       root-turn _ _ _ _ _ m (l .inv .2) _ e ∙ l .inv .1,

@@ -86,7 +86,7 @@ returns c =
     let s = tested .before .before .before in
     copied-is tuple (s .args .heap .now) (s .args .object .0) (s .args .free .0) _ _ _ _
     (sym (tested .is-header .ensures) ∙ headed .if1 .taken)
-    (counted .count-of .ensures .0) (copied .copy .ensures) (c .before .address-of .ensures) (c .mark .ensures)
+    (counted .count-of .ensures .0) (copied .copy .ensures) (c .before .address-of .ensures) (omega (arith, c .mark .ensures))
 
 unmark-requires : tie.Need-unmark-requires
 unmark-requires c κs = sym (c .before .is-header .ensures) ∙ c .if1 .left

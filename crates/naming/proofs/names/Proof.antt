@@ -1,4 +1,5 @@
 -- `naming::names` meets its contract, by one law of its six tests.
+use native.Mathlib.Omega.{arith}
 use borrow.Author.Tests.{eq-eqb, ne-eqb, lt-ltb, le-ltb, le-leb, lt-leb, not-true, not-false}
 use Prim.Native.Nat.{ℕ, _+_}
 use mathlib.Core.Path.{_≡_, refl, sym, ap, _∙_}
@@ -113,7 +114,7 @@ returns-6 c = λ R.
     (indexed .index-of .ensures) (based .first-of .ensures)
     (address (aligned .before)) (eq-eqb _ _ (aligned .if2 .left)) (le-leb _ _ (past .if3 .left))
     (lt-ltb _ _ (below .if4 .left)) (sym (tested .is-header .ensures) ∙ not-false _ (headed .if5 .left))
-    (ap (λ (n : ℕ). leb (indexed .index-of .result .0 + (n + 1)) (s .args .«record» .free .0)) (sym (c .count-of .ensures .0)))
+    (ap (λ (e : ℕ). leb e (s .args .«record» .free .0)) (omega (arith, c .count-of .ensures .0)))
 
 pub names-spec : {M : Type 1} → statement M
 names-spec =

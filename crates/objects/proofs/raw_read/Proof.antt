@@ -7,7 +7,7 @@ use Rattle.model.specs.Words.{State, lent}
 use Rattle.naming.specs.declared.Field.the-variants.{At}
 use Rattle.objects.specs.Reached.{reached}
 use Rattle.access.proofs.Refusing.{said}
-use Rattle.objects.proofs.ReachedFields.{by-field, by-refusal, Reaches, reaches, raw-read-reached}
+use Rattle.objects.proofs.ReachedFields.{by-field, by-refusal, Reaches, reaches, raw-read-reached, same-field, same-number}
 use borrow.Author.Needs.{needs}
 use Rattle.objects.proofs.raw_read.Statement.{statement}
 use Rattle.objects.proofs.raw_read.Tie as tie
@@ -22,7 +22,7 @@ start c = lent (c .args .heap .now) (c .args .roots .now) (c .args .«record»)
 
 found-at : (c : tie.After-found) → let s = c .before .before .before .before .before in
     reached tuple Untraced (s .args .object) (s .args .field) (s .args .object) (start s) ≡ At (c .found .given .0 .0)
-found-at c = sym (c .before .before .reach .ensures) ∙ c .found .given .1
+found-at c = sym (same-field tuple _ _ _ _ _ (c .before .before .reach .ensures) (omega arith)) ∙ c .found .given .1
 
 reached-at : (c : tie.After-found) → let s = c .before .before .before .before .before in
     Reaches (start s) (s .args .object) (s .args .object) (c .found .given .0 .0)
@@ -34,11 +34,11 @@ reach-requires c κs = search needs
 enum-known-found : tie.Need-enum-known-found
 enum-known-found c = search needs
 
-mul-t12 : tie.Need-mul-t12
-mul-t12 c = let r = reached-at (c .before) in search needs
+mul-word : tie.Need-mul-word
+mul-word c = let r = reached-at (c .before) in search needs
 
-shared-slice-read-t14 : tie.Need-shared-slice-read-t14
-shared-slice-read-t14 c = let r = reached-at (c .before .before) in omega arith
+shared-slice-read-word : tie.Need-shared-slice-read-word
+shared-slice-read-word c = let r = reached-at (c .before .before) in omega arith
 
 say-requires : tie.Need-say-requires
 say-requires c κs = search needs
@@ -52,13 +52,14 @@ say-requires-2 c κs = search needs
 returns : tie.Need-returns
 returns c =
     said _ _ (c .say .ensures)
-    (by-field _ _ (raw-read-reached _ _ _ _) (found-at (c .before .before .before)))
+    (same-number _ (omega arith) ∙ by-field _ _ (raw-read-reached _ _ _ _) (found-at (c .before .before .before)))
 
 returns-2 : tie.Need-returns-2
 returns-2 c =
     said _ _ (c .say2 .ensures)
     (by-refusal _ _ (raw-read-reached _ _ _ _)
-    (sym (c .before .before .before .before .reach .ensures) ∙ c .before .before .found2 .given .1))
+    (sym (same-field tuple _ _ _ _ _ (c .before .before .before .before .reach .ensures) (omega arith))
+    ∙ c .before .before .found2 .given .1))
 
 pub raw-read-spec : {M : Type 1} → statement M
 raw-read-spec =
@@ -66,8 +67,8 @@ raw-read-spec =
     (tie.spec
     reach-requires
     enum-known-found
-    mul-t12
-    shared-slice-read-t14
+    mul-word
+    shared-slice-read-word
     say-requires
     enum-known-found-2
     say-requires-2

@@ -7,7 +7,7 @@ use Rattle.model.specs.Words.{State, lent}
 use Rattle.naming.specs.declared.Field.the-variants.{At}
 use Rattle.objects.specs.Reached.{reached}
 use Rattle.access.proofs.Refusing.{said}
-use Rattle.objects.proofs.ReachedFields.{by-field, by-refusal, Reaches, reaches, raw-write-reached}
+use Rattle.objects.proofs.ReachedFields.{by-field, by-refusal, Reaches, reaches, raw-write-reached, same-field, written}
 use borrow.Author.Needs.{needs}
 use Rattle.objects.proofs.raw_write.Statement.{statement}
 use Rattle.objects.proofs.raw_write.Tie as tie
@@ -20,19 +20,19 @@ use Rattle.objects.proofs.reach.Reads as reach-reads
 abbrev start : tie.Start → State
 start c = lent (c .args .heap .now) (c .args .roots .now) (c .args .«record»)
 
-found-at : (c : tie.After-found) → let s = c .before .before .before .before .before .before in
-    reached tuple Untraced (s .args .object) (s .args .field) (s .args .object) (start s) ≡ At (c .found .given .0 .0)
-found-at c = sym (c .before .before .reach .ensures) ∙ c .found .given .1
+found-at : (c : tie.After-target) → let s = c .before .before .before .before .before .before in
+    reached tuple Untraced (s .args .object) (s .args .field) (s .args .object) (start s) ≡ At (c .target .given .0 .0)
+found-at c = sym (same-field tuple _ _ _ _ _ (c .before .before .reach .ensures) (omega arith)) ∙ c .target .given .1
 
-reached-at : (c : tie.After-found) → let s = c .before .before .before .before .before .before in
-    Reaches (start s) (s .args .object) (s .args .object) (c .found .given .0 .0)
+reached-at : (c : tie.After-target) → let s = c .before .before .before .before .before .before in
+    Reaches (start s) (s .args .object) (s .args .object) (c .target .given .0 .0)
 reached-at c = reaches _ _ _ _ _ _ _ (found-at c)
 
 reach-requires : tie.Need-reach-requires
 reach-requires c κs = search needs
 
-enum-known-found : tie.Need-enum-known-found
-enum-known-found c = search needs
+enum-known-target : tie.Need-enum-known-target
+enum-known-target c = search needs
 
 mul-heap : tie.Need-mul-heap
 mul-heap c = let r = reached-at (c .before) in search needs
@@ -43,8 +43,8 @@ slice-write-heap c = let r = reached-at (c .before) in omega arith
 say-requires : tie.Need-say-requires
 say-requires c κs = search needs
 
-enum-known-found-2 : tie.Need-enum-known-found-2
-enum-known-found-2 c = search needs
+enum-known-target-2 : tie.Need-enum-known-target-2
+enum-known-target-2 c = search needs
 
 say-requires-2 : tie.Need-say-requires-2
 say-requires-2 c κs = search needs
@@ -54,8 +54,10 @@ same-length c = search needs
 
 returns : tie.Need-returns
 returns c =
-    said _ _ (c .say .ensures)
-    (by-field _ _ (raw-write-reached _ _ _ _ _) (found-at (c .before .before)))
+    let found = c .before .before in
+    let s = found .before .before .before .before .before .before in
+    written {y = s .args .number} (start s) (found .target .given .0 .0 .0) _ (c .say .ensures)
+    (by-field _ _ (raw-write-reached _ _ _ _ _) (found-at found)) (omega arith)
 
 same-length-2 : tie.Need-same-length-2
 same-length-2 c = search needs
@@ -64,18 +66,19 @@ returns-2 : tie.Need-returns-2
 returns-2 c =
     said _ _ (c .say2 .ensures)
     (by-refusal _ _ (raw-write-reached _ _ _ _ _)
-    (sym (c .before .before .before .before .reach .ensures) ∙ c .before .before .found2 .given .1))
+    (sym (same-field tuple _ _ _ _ _ (c .before .before .before .before .reach .ensures) (omega arith))
+    ∙ c .before .before .target2 .given .1))
 
 pub raw-write-spec : {M : Type 1} → statement M
 raw-write-spec =
     tie.close
     (tie.spec
     reach-requires
-    enum-known-found
+    enum-known-target
     mul-heap
     slice-write-heap
     say-requires
-    enum-known-found-2
+    enum-known-target-2
     say-requires-2
     same-length
     returns
