@@ -7,9 +7,13 @@ use Rattle.model.specs.declared.Answer.the-variants as Says
 use Rattle.model.specs.Words.{State}
 use Rattle.model.specs.Headers.{Layout}
 use Rattle.model.specs.Soundness.{sound}
-use Rattle.model.specs.Collection.{collected}
+use Rattle.model.specs.Collection.{live, collected}
 use Rattle.model.specs.Answers.{Outcome, says, refuse}
 use Rattle.model.specs.Changes.{fits, placed}
+
+-- what a collection of a sound heap answers and leaves
+abbrev pub collection : Layout → State → Outcome State
+collection Y s = says (Says.Live (live Y s)) (collected Y s)
 
 -- the collection, and another try
 unfoldable pub retried : Layout → Kind → ℕ → ℕ → State → Outcome State

@@ -5,14 +5,27 @@ ghost use lib.ListN.{length};
 ghost use Rattle.model.specs.Limits.{maxFields};
 ghost use Rattle.model.specs.Words.{lent};
 ghost use Rattle.model.specs.Headers as Layouts;
-ghost use Rattle.model.specs.Answers.{outcome};
+ghost use Rattle.model.specs.Answers.{says, outcome};
 ghost use Rattle.model.specs.Calls as Calls;
-ghost use Rattle.allocator.specs.Retrying.{retried};
+ghost use mathlib.Core.Bool.{true};
+ghost use Rattle.model.specs.declared.Answer.the-variants as Says;
+ghost use Rattle.model.specs.Soundness.{sound};
+ghost use Rattle.allocator.specs.Retrying.{collection, retried};
+use engine::Collected;
 use model::Answer;
 use model::Answered;
 use model::Kind;
 use model::Record;
 use model::Refusal;
+
+// Collects a sound heap. The first `count` roots count as live: all of them, also the one that an allocation is for.
+fn collect_among(heap: &mut [u32], roots: &mut [u32], count: usize, record: Record) -> Collected
+    requires { ⌜ (count ≡ length (now roots)) × (sound Layouts.tuple (lent (now heap) (now roots) «record») ≡ true) ⌝ }
+    ensures { λ r. ⌜ says (Says.Live (r .live)) (lent (now (heap .exit)) (now (roots .exit)) (r .«record»))
+        ≡ collection Layouts.tuple (lent (now (heap .entry)) (now (roots .entry)) «record») ⌝ }
+{
+    engine::collect_sound(heap, &mut roots[..count], record)
+}
 
 // After a collection: done, DAMAGED with nothing changed, or ROOM with the heap collected.
 fn retry(
@@ -27,7 +40,8 @@ fn retry(
     ensures { λ r. ⌜ outcome r (now (heap .exit)) (now (roots .exit)) ≡ retried Layouts.tuple kind fields to (lent (now (heap .entry)) (now (roots .entry)) «record») ⌝ }
 {
     if checker::is_sound(heap, roots, record) {
-        let done = engine::collect_sound(heap, roots, record);
+        let all = roots.len();
+        let done = collect_among(heap, roots, all, record);
         let after = done.record;
         if fields < placing::spare_of(heap.len(), after) {
             let placed = placing::place(heap, roots, after, kind, fields, to);

@@ -15,7 +15,7 @@ use Rattle.allocator.proofs.retry.Tie as tie
 use Rattle.allocator.proofs.retry.Reads as reads
 use Rattle.allocator.proofs.retry.Lts as lts
 use Rattle.checker.proofs.is_sound.Reads as is-sound-reads
-use Rattle.engine.proofs.collect_sound.Reads as collect-sound-reads
+use Rattle.allocator.proofs.collect_among.Reads as collect-among-reads
 use Rattle.placing.proofs.place.Reads as place-reads
 use Rattle.placing.proofs.spare_of.Reads as spare-of-reads
 
@@ -35,20 +35,20 @@ checked c =
     let asked = tested .before .before .before .is-sound in
     sym (asked .ensures .0) ∙ cc (or-false (asked .result), tested .if1 .taken)
 
-left : (c : tie.After-after) → let l = c .before .before .before .before .before .collect-sound in
+left : (c : tie.After-after) → let l = c .before .before .before .before .before .collect-among in
     lent (l .last .0) (l .last .1 .0) (l .result .«record») ≡ collected tuple (start (origin c))
 left c =
     let done = c .before .before .before .before .before in
     let asked = done .before .before .before .before .before .before in
-    left-is tuple _ _ _ _ (asked .is-sound .ensures .1) _ _ (done .collect-sound .ensures)
+    left-is tuple _ _ _ _ (asked .is-sound .ensures .1) _ _ (done .collect-among .ensures)
 
 is-sound-requires : tie.Need-is-sound-requires
 is-sound-requires c κs = search needs
 
-collect-sound-requires : tie.Need-collect-sound-requires
-collect-sound-requires c κs =
+collect-among-requires : tie.Need-collect-among-requires
+collect-among-requires c κs =
     let asked = c .before .before .before .before .before .is-sound in
-    rw (asked .ensures .1) (sym (asked .ensures .0) ∙ cc (or-false (asked .result), c .before .before .if1 .taken))
+    rw (asked .ensures .1) (omega arith, sym (asked .ensures .0) ∙ cc (or-false (asked .result), c .before .before .if1 .taken))
 
 spare-of-requires : tie.Need-spare-of-requires
 spare-of-requires c κs = may-spare _ (left-shaped tuple _ (checked c) _ (left c))
@@ -103,7 +103,7 @@ retry-spec =
     tie.close
     (tie.spec
     is-sound-requires
-    collect-sound-requires
+    collect-among-requires
     spare-of-requires
     place-requires
     same-length
