@@ -142,17 +142,17 @@ module _ (Y : Layout) (law : WritesBoth Y) where
     every = λ s w h. (_, sound-represents Y s (sound-tests Y s h) w);
     begins = begun-represents Y;
     freshAnswers = λ small large e l cs k.
-        runs Y law cs k (D3.begun (machine Y) small) (D3.begun (machine Y) large) (emptyGraph (small .roots))
+        runs Y law cs k (D3.begun (machine Y) small) (D3.begun (machine Y) large) (emptyGraph (small .nullRoots))
         (begun-represents Y small)
         (subst (λ n. Represents Y (D3.begun (machine Y) large) (emptyGraph n)) (sym e) (begun-represents Y large))
         (omega (arith, begun-half Y small, begun-half Y large));
     freshRoom = λ e.
-        subst (λ n. D3.RoomExactly (machine Y) n (D3.begun (machine Y) e) (emptyGraph (e .roots))) (begun-half Y e)
-        (room (D3.begun (machine Y) e) (emptyGraph (e .roots)) (begun-represents Y e));
+        subst (λ n. D3.RoomExactly (machine Y) n (D3.begun (machine Y) e) (emptyGraph (e .nullRoots))) (begun-half Y e)
+        (room (D3.begun (machine Y) e) (emptyGraph (e .nullRoots)) (begun-represents Y e));
     freshLive = λ cs n. live-words (graphAfter cs (emptyGraph n)) (session-known cs n);
-    staysSound = λ e cs. after-represents Y law cs (D3.begun (machine Y) e) (emptyGraph (e .roots)) (begun-represents Y e) .0 .ok;
-    freshNeverShape = λ e. never-shape (D3.begun (machine Y) e) (emptyGraph (e .roots)) (begun-represents Y e);
-    freshNeverDamaged = λ e. never-damaged (D3.begun (machine Y) e) (emptyGraph (e .roots)) (begun-represents Y e);
+    staysSound = λ e cs. after-represents Y law cs (D3.begun (machine Y) e) (emptyGraph (e .nullRoots)) (begun-represents Y e) .0 .ok;
+    freshNeverShape = λ e. never-shape (D3.begun (machine Y) e) (emptyGraph (e .nullRoots)) (begun-represents Y e);
+    freshNeverDamaged = λ e. never-damaged (D3.begun (machine Y) e) (emptyGraph (e .nullRoots)) (begun-represents Y e);
   }
 
 pub demand3 : D3.Demand3 tuple (machine tuple)

@@ -48,7 +48,8 @@ fresh-clears s n =
       zeros = λ i. getD-same {A = ℕ} (length (s .heap)) i 0;
       sameLength = length-replicate (length (s .heap)) 0;
       sameRoots = refl;
-      newRecord = refl;
+      halfA = refl;
+      freeIs = refl;
     })
 
 module _ (Y : Layout) where

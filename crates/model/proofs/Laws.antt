@@ -1,14 +1,14 @@
 -- Further laws: the window, integers and headers, lengths, and that a promise settles everything. Assumes nothing.
-use Prim.Native.Nat.{ℕ, _+_, _-_, _/_, _≤_, _<_}
+use Prim.Native.Nat.{ℕ, _%_, _+_, _-_, _/_, _≤_, _<_}
 use native.Mathlib.Omega.{arith}
 use mathlib.Core.Path.{_≡_, refl, sym, ap, _∙_}
-use mathlib.Core.Logic.{⊎-elim}
+use mathlib.Core.Logic.{⊎-elim, _↔_}
 use mathlib.Core.Bool.{true, false}
 use mathlib.Core.List.{List}
 use lib.Dec.{ltb}
 use lib.ListN.{length, take, drop, length-take, length-drop, length-replicate}
 use lib.Seq.{getD-take, getD-drop}
-use borrow.Author.Tests.{ltb-true, ltb-false, le-leb, lt-leb}
+use borrow.Author.Tests.{eqb-true, eq-eqb, ltb-true, ltb-false, le-leb, lt-leb}
 use Rattle.model.specs.declared.Kind.{Kind}
 use Rattle.model.specs.declared.Kind.the-variants.{Traced, Untraced}
 use Rattle.model.specs.declared.Refusal.{Refusal}
@@ -146,8 +146,20 @@ unfolding tuple
 header-fits Traced n l = omega arith
 header-fits Untraced n l = omega arith
 
+header-bit : (h : ℕ) → (tuple .isHeader h ≡ true) ↔ (h % 2 ≡ 0)
+unfolding tuple
+header-bit h = (λ e. eqb-true (h % 2) 0 e, λ e. eq-eqb (h % 2) 0 e)
+
+header-bits : (h : ℕ) → h < 4294967296 → h % 2 ≡ 0 → tuple .header (tuple .kindOf h) (tuple .countOf h) ≡ h
+unfolding tuple
+header-bits h l e =
+    ⊎-elim
+    (λ (b : ltb h 2147483648 ≡ true). let g = ltb-true h 2147483648 b in rw b (omega arith))
+    (λ (b : ltb h 2147483648 ≡ false). let g = ltb-false h 2147483648 b in rw b (omega arith))
+    (by-test (ltb h 2147483648))
+
 pub header-law : Law.HeaderLaw
-header-law = record { reads = tuple-lawful; fits = header-fits }
+header-law = record { reads = tuple-lawful; fits = header-fits; bit0 = header-bit; bits = header-bits }
 
 -- ---- calls
 

@@ -67,7 +67,8 @@ cleared-once : (s t t′ : State) → E.Cleared s t → E.Cleared s t′ → t �
 cleared-once s t t′ c c′ =
     same-state t t′
     (ext-getD 0 (t .heap) (t′ .heap) (c .sameLength ∙ sym (c′ .sameLength)) (λ i l. c .zeros i ∙ sym (c′ .zeros i)))
-    (c .sameRoots ∙ sym (c′ .sameRoots)) (c .newRecord ∙ sym (c′ .newRecord))
+    (c .sameRoots ∙ sym (c′ .sameRoots))
+    (same-record (t .«record») (t′ .«record») (c .halfA ∙ sym (c′ .halfA)) (c .freeIs ∙ sym (c′ .freeIs)))
 
 module _ (Y : Layout) where
   one-object : (k : Kind) (n r : ℕ) (s t t′ : State) → E.NewObject Y k n r s t → E.NewObject Y k n r s t′ → t ≡ t′

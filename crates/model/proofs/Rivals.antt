@@ -189,9 +189,9 @@ keepsWords =
 abbrev threeWords : (w n : ℕ) → n ≤ maxRoots → D3.Session
 threeWords w n few = record {
   words = replicate 3 w;
-  half = 1;
+  S = 1;
   halves = record { length-is = refl; least = omega arith; most = omega arith };
-  roots = n;
+  nullRoots = n;
   few = few;
   «record» = freshRecord;
 }

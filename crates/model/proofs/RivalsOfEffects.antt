@@ -78,7 +78,7 @@ freshInB = record {
 pub fresh-in-b-breaks-fresh : E.Effects tuple freshInB → ⊥
 unfolding refuse
 fresh-in-b-breaks-fresh e =
-    let z : _≡_ {A = ℕ} 2 1 = ap (λ q. firstOf 1 (q .half)) (e .fresh seven (length-decides seven .fails refl) .1 .newRecord) in
+    let z : _≡_ {A = ℕ} 2 1 = ap (λ h. firstOf 1 h) (e .fresh seven (length-decides seven .fails refl) .1 .halfA) in
     omega arith
 
 -- ---- fresh answers "no"

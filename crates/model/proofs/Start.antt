@@ -36,27 +36,27 @@ fresh-good s e = rw e
 module _ (Y : Layout) (e : D3.Session) where
   -- what is begun: the same number of words, all 0, half A, free index 1
   abbrev blank : State
-  blank = lent (replicate (length (e .words)) 0) (replicate (e .roots) 0) freshRecord
+  blank = lent (replicate (length (e .words)) 0) (replicate (e .nullRoots) 0) freshRecord
 
   pub begun-is : D3.begun (machine Y) e ≡ blank
   begun-is =
       let v = e .halves in
       ap (λ o. o .left)
-      (fresh-good (lent (e .words) (replicate (e .roots) 0) (e .«record»))
+      (fresh-good (lent (e .words) (replicate (e .nullRoots) 0) (e .«record»))
       (rw (
         ne-eqb (length (e .words) % 2) 0 (λ z. omega (arith, v .length-is)),
         le-ltb (length (e .words)) 3 (omega (arith, v .length-is, v .least)),
         le-ltb maxWords (length (e .words)) (omega (arith, v .length-is, v .most)),
       )))
 
-  blank-length : length (blank .heap) ≡ 2 * e .half + 1
+  blank-length : length (blank .heap) ≡ 2 * e .S + 1
   blank-length = length-replicate (length (e .words)) 0 ∙ e .halves .length-is
 
-  pub blank-half : halfWords (blank .heap) ≡ e .half
+  pub blank-half : halfWords (blank .heap) ≡ e .S
   blank-half = omega (arith, blank-length)
 
-  roots-length : length (blank .roots) ≡ e .roots
-  roots-length = length-replicate (e .roots) 0
+  roots-length : length (blank .roots) ≡ e .nullRoots
+  roots-length = length-replicate (e .nullRoots) 0
 
   blank-sound : SoundTests Y blank
   blank-sound = record {
@@ -72,11 +72,11 @@ module _ (Y : Layout) (e : D3.Session) where
     idle = λ i l k. getD-same {A = ℕ} (length (e .words)) i 0;
     rest = λ i l k. getD-same {A = ℕ} (length (e .words)) i 0;
     tiled = tiles-here Y (blank .heap) 1 (1 - 1);
-    roots = λ r l. rw (getD-same {A = ℕ} (e .roots) r 0) (zero-value Y (headers Y blank));
+    roots = λ r l. rw (getD-same {A = ℕ} (e .nullRoots) r 0) (zero-value Y (headers Y blank));
     values = λ i f m k l. in-nil i (rw (headers-here Y (blank .heap) 1 (1 - 1)) at m);
   }
 
-  blank-represents : Represents Y blank (emptyGraph (e .roots))
+  blank-represents : Represents Y blank (emptyGraph (e .nullRoots))
   blank-represents = record {
     ok = tests-sound Y blank blank-sound;
     kept = [];
@@ -84,13 +84,13 @@ module _ (Y : Layout) (e : D3.Session) where
     known = λ x i. in-nil x i;
     head = λ x i. in-nil x i;
     apart = λ x y i j q. in-nil x i;
-    count = roots-length ∙ sym (length-replicate (e .roots) (plain null));
-    roots = λ r l. rw (getD-same {A = Value} (e .roots) r (plain null)) (refl, getD-same {A = ℕ} (e .roots) r 0);
+    count = roots-length ∙ sym (length-replicate (e .nullRoots) (plain null));
+    roots = λ r l. rw (getD-same {A = Value} (e .nullRoots) r (plain null)) (refl, getD-same {A = ℕ} (e .nullRoots) r 0);
     holds = λ x i. in-nil x i;
   }
 
-  pub begun-represents : Represents Y (D3.begun (machine Y) e) (emptyGraph (e .roots))
-  begun-represents = subst (λ s. Represents Y s (emptyGraph (e .roots))) (sym begun-is) blank-represents
+  pub begun-represents : Represents Y (D3.begun (machine Y) e) (emptyGraph (e .nullRoots))
+  begun-represents = subst (λ s. Represents Y s (emptyGraph (e .nullRoots))) (sym begun-is) blank-represents
 
-  pub begun-half : halfWords (D3.begun (machine Y) e .heap) ≡ e .half
+  pub begun-half : halfWords (D3.begun (machine Y) e .heap) ≡ e .S
   begun-half = ap (λ s. halfWords (s .heap)) begun-is ∙ blank-half

@@ -39,15 +39,15 @@ pub record Halves (words : List ℕ) (S : ℕ) : Type 0 where
 -- such words, any record, and a legal number of null roots
 pub record Session : Type 0 where
   pub words : List ℕ
-  pub half : ℕ
-  pub halves : Halves words half
-  pub roots : ℕ
-  pub few : roots ≤ maxRoots
+  pub S : ℕ
+  pub halves : Halves words S
+  pub nullRoots : ℕ
+  pub few : nullRoots ≤ maxRoots
   pub «record» : Record
 
 -- they are lent and made fresh
 abbrev pub begun : Machine → Session → State
-begun M e = M .fresh (lent (e .words) (replicate (e .roots) 0) (e .«record»)) .left
+begun M e = M .fresh (lent (e .words) (replicate (e .nullRoots) 0) (e .«record»)) .left
 
 -- ---- "no room"
 
@@ -153,11 +153,11 @@ pub record Demand3 (Y : Layout) (M : Machine) : Type 0 where
   -- every sound state stands for a graph
   pub every : (s : State) → OfWords s → Sound Y s → (g : Graph) × Represents Y s g
   -- what fresh begins stands for the empty graph
-  pub begins : (e : Session) → Represents Y (begun M e) (emptyGraph (e .roots))
+  pub begins : (e : Session) → Represents Y (begun M e) (emptyGraph (e .nullRoots))
   -- so all this holds of heaps that begin with fresh; the first two sentences in full
-  pub freshAnswers : (small large : Session) → small .roots ≡ large .roots → small .half ≤ large .half
-      → SameAnswers M (begun M small) (begun M large) (emptyGraph (small .roots))
-  pub freshRoom : (e : Session) → RoomExactly M (e .half) (begun M e) (emptyGraph (e .roots))
+  pub freshAnswers : (small large : Session) → small .nullRoots ≡ large .nullRoots → small .S ≤ large .S
+      → SameAnswers M (begun M small) (begun M large) (emptyGraph (small .nullRoots))
+  pub freshRoom : (e : Session) → RoomExactly M (e .S) (begun M e) (emptyGraph (e .nullRoots))
   pub freshLive : (cs : List Call) (n : ℕ) → LiveWords (graphAfter cs (emptyGraph n))
   pub staysSound : (e : Session) (cs : List Call) → Sound Y (after M cs (begun M e))
   pub freshNeverShape : (e : Session) → Never M Why.Shape (begun M e)

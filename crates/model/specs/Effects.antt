@@ -5,6 +5,7 @@ use mathlib.Core.Path.{_≡_}
 use mathlib.Core.Logic.{_⊎_, _↔_}
 use lib.IntN.{ℤ}
 use lib.ListN.{length}
+use Rattle.model.specs.declared.Half.the-variants.{A}
 use Rattle.model.specs.declared.Kind.{Kind}
 use Rattle.model.specs.declared.Answer.the-variants as Says
 use Rattle.model.specs.declared.Call.{Call}
@@ -16,7 +17,6 @@ use Rattle.model.specs.Objects.{address, index, kind, fieldCount, fieldI
 use Rattle.model.specs.Collection.{collected}
 use Rattle.model.specs.Answers.{Outcome}
 use Rattle.model.specs.Changes.{rootWord, spare}
-use Rattle.model.specs.Calls.{freshRecord}
 use Rattle.model.specs.Sessions.{Machine}
 use Rattle.model.specs.Conditions.{BadLength, Names, Sound}
 use Rattle.model.specs.Refusals.{CalledFor, rows}
@@ -58,7 +58,8 @@ pub record Cleared (s t : State) : Type 0 where
   pub zeros : (i : ℕ) → at (t .heap) i ≡ 0
   pub sameLength : length (t .heap) ≡ length (s .heap)
   pub sameRoots : t .roots ≡ s .roots
-  pub newRecord : t .«record» ≡ freshRecord
+  pub halfA : t .«record» .half ≡ A
+  pub freeIs : free t ≡ 1
 
 -- ---- the calls
 

@@ -2,6 +2,7 @@
 -- be told apart, and that a promise settles everything.
 use Prim.Native.Nat.{ℕ, _*_, _%_, _≤_, _<_}
 use mathlib.Core.Path.{_≡_}
+use mathlib.Core.Logic.{_↔_}
 use mathlib.Core.Bool.{true}
 use mathlib.Core.List.{List, []}
 use lib.ListN.{length}
@@ -59,6 +60,9 @@ pub record IntegerLaw : Type 0 where
 pub record HeaderLaw : Type 0 where
   pub reads : Lawful tuple
   pub fits : (k : Kind) (n : ℕ) → n ≤ maxFields → tuple .header k n < 4_294_967_296
+  -- a word is a header exactly when bit 0 is clear, and then it is that of its kind and count: bit 31, and bits 1 to 30
+  pub bit0 : (h : ℕ) → (tuple .isHeader h ≡ true) ↔ (h % 2 ≡ 0)
+  pub bits : (h : ℕ) → h < 4_294_967_296 → h % 2 ≡ 0 → tuple .header (tuple .kindOf h) (tuple .countOf h) ≡ h
 
 -- ---- calls
 
