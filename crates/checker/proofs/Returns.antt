@@ -50,8 +50,8 @@ module _ (H : List ℕ) (p : Part) (S : ℕ) where
     pub around-dirty : b ≡ false → false ≡ isZeroAround H p S
     around-dirty d = sym (around-idle z false (sym d ∙ idle-is))
 
-    pub around-rest : b ≡ true → (m : ℕ) → p .free .0 + m ≤ length H → (r : Bool) → r ≡ all isNull (run H (p .free .0) m) → m ≡ p .first .0 + S - p .free .0
-        → r ≡ isZeroAround H p S
+    pub around-rest : b ≡ true → (m : ℕ) → p .free .0 + m ≤ length H → (r : Bool) → r ≡ all isNull (run H (p .free .0) m)
+        → m ≡ p .first .0 + S - p .free .0 → r ≡ isZeroAround H p S
     around-rest d m behind r g rest =
         g ∙ ap (λ (k : ℕ). all isNull (run H (p .free .0) k)) rest ∙ sym (around-idle z true (sym d ∙ idle-is))
 

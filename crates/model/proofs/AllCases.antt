@@ -18,4 +18,10 @@ pub record AllCases : Type 0 where
   pub kept : map (λ e. e .computed) Edges.edges ≡ map (λ e. e .expected) Edges.edges
 
 pub all-cases : AllCases
-all-cases = record { worked = Worked.worked; unnamed = Unnamed.unnamed; unsound = Unsound.unsound; called = EachCall.called; kept = Edges.kept }
+all-cases = record {
+  worked = Worked.worked;
+  unnamed = Unnamed.unnamed;
+  unsound = Unsound.unsound;
+  called = EachCall.called;
+  kept = Edges.kept;
+}
