@@ -14,7 +14,7 @@ use Rattle.model.specs.Graph.{null}
 use Rattle.model.specs.Headers.{Layout}
 use Rattle.model.specs.Objects.{kind, fieldCount}
 use Rattle.model.specs.Soundness.{tiles, headersFrom, headers, isValue}
-use Rattle.model.specs.Words.{State, at, halfWords, other, firstOf, firstWord, otherFirst, free}
+use Rattle.model.specs.Words.{State, withHeap, at, halfWords, other, firstOf, firstWord, otherFirst, free}
 use Rattle.model.proofs.Members.{In}
 use Rattle.model.proofs.Retiling.{tiles-same}
 use Rattle.model.proofs.Shape.{first-in, halves-apart}
@@ -61,7 +61,7 @@ module _ (Y : Layout) (s : State) (h : SoundTests Y s) where
       (kept : (j : ℕ) → In j (headers Y s) → at H′ j ≡ at (s .heap) j)
       (outside : (j : ℕ) → (j < firstWord s) ⊎ (free s ≤ j) → at H′ j ≡ at (s .heap) j) where
     abbrev with : State
-    with = record { heap = H′; roots = s .roots; «record» = s .«record» }
+    with = withHeap H′ s
 
     with-room : halfWords H′ ≡ halfWords (s .heap)
     with-room = ap (λ x. (x - 1) / 2) len

@@ -15,7 +15,7 @@ use Rattle.model.specs.Headers.{tuple}
 use Rattle.model.specs.Shape.{badLength, badShapeOf}
 use Rattle.model.specs.Answers.{told}
 use Rattle.model.specs.Sessions.{step}
-use Rattle.model.specs.Worked.{ran, oneNull}
+use Rattle.model.specs.Worked.{ran, state, oneNull}
 
 -- numbers computed, and as they should be
 pub record Pair : Type 0 where
@@ -36,7 +36,7 @@ shape false = 0
 
 -- n roots, half h and free index f, with S = 8: half A is words 1 to 8, half B words 9 to 16
 abbrev pub shapeOf8 : ℕ → Half → ℕ → ℕ
-shapeOf8 n h f = shape (badShapeOf 17 n (record { half = h; free = record { 0 = f } }))
+shapeOf8 n h f = shape (badShapeOf 17 n (state h f [] [] .«record»))
 
 -- the largest n of an object and of an integer, with one below and one above
 abbrev pub aroundMost : List ℕ
