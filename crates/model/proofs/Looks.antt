@@ -106,7 +106,7 @@ module _ (Y : Layout) (s : State) (H : List ℕ) (len : length H ≡ length (s .
         let b = length-drop (j .0 + 1) (s .heap) in
         let b′ = length-drop (j .0 + 1) H in
         ext-getD 0 (take n (drop (j .0 + 1) H)) (take n (drop (j .0 + 1) (s .heap)))
-        (rw (length-take, length-drop, len, length-take, length-drop))
+        (omega (arith, len))
         (λ f l.
         let u : f < n = omega arith in
         rw (getD-take n (drop (j .0 + 1) H) f 0 u, getD-drop, getD-take n (drop (j .0 + 1) (s .heap)) f 0 u, getD-drop, w .object)
