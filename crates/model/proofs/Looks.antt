@@ -9,17 +9,19 @@ use lib.Dec.{leb}
 use lib.ListN.{length, set, take, drop, length-take, length-drop}
 use lib.Seq.{getD-set-same, getD-set-other, getD-take, getD-drop, ext-getD}
 use borrow.Author.Tests.{leb-false}
+use Rattle.model.specs.declared.Record.{Record}
 use Rattle.model.specs.declared.Kind.{Kind}
 use Rattle.model.specs.declared.Kind.the-variants.{Traced, Untraced}
 use Rattle.model.specs.declared.Refusal.{Refusal}
 use Rattle.model.specs.declared.Refusal.the-variants as Why
+use Rattle.model.specs.declared.Answer.{Answer}
 use Rattle.model.specs.declared.Answer.the-variants as Says
 use Rattle.model.specs.declared.Call.{Call}
 use Rattle.model.specs.declared.Call.the-variants as Ask
 use Rattle.model.specs.declared.Place.{Place}
 use Rattle.model.specs.declared.Place.the-variants as Place
 use Rattle.model.specs.Admission.{noRoots, onRoots}
-use Rattle.model.specs.Answers.{Outcome, refuse}
+use Rattle.model.specs.Answers.{Outcome, says, refuse}
 use Rattle.model.specs.Calls as Calls
 use Rattle.model.specs.Calls.{isOfKind, onField}
 use Rattle.model.specs.Changes.{rootWord, placed}
@@ -32,7 +34,7 @@ use Rattle.model.specs.Shape.{badShapeOf, badShape}
 use Rattle.model.specs.Soundness.{headers}
 use Rattle.model.specs.Values.{isOdd, isNull, tag}
 use Rattle.model.specs.Window.{window, shown}
-use Rattle.model.specs.Words.{State, withHeap, at, free}
+use Rattle.model.specs.Words.{State, lent, withHeap, at, free}
 use Rattle.model.proofs.Collected.{new-roots}
 use Rattle.model.proofs.Deciding.{sound-tests}
 use Rattle.model.proofs.Demand2.{collects}
@@ -42,6 +44,10 @@ use Rattle.model.proofs.Leaving.{step-left}
 use Rattle.model.proofs.Members.{in-mem}
 use Rattle.model.proofs.Soundness.{SoundTests}
 use Rattle.model.proofs.Tests.{same?}
+
+-- outcomes that differ in their heaps at most
+but-heap : {a : Answer} {H H′ R : List ℕ} {q : Record} → L.Alike (says a (lent H R q)) (says a (lent H′ R q))
+but-heap = record { answer = refl; roots = refl; «record» = refl }
 
 -- ---- two heaps of one length
 
@@ -59,7 +65,7 @@ module _ (Y : Layout) (s : State) (H : List ℕ) (len : length H ≡ length (s .
   refuse-alike : (b b′ : Bool) (k : Refusal) (o o′ : Outcome State) → b ≡ b′ → (b′ ≡ false → Alike o o′)
       → Alike (refuse b k t o) (refuse b′ k s o′)
   unfolding refuse
-  refuse-alike b true k o o′ e f = rw e (record { answer = refl; roots = refl; «record» = refl })
+  refuse-alike b true k o o′ e f = rw e but-heap
   refuse-alike b false k o o′ e f = rw e (f refl)
 
   roots-alike : (named : List ℕ) (o o′ : Outcome State) → Alike o o′ → Alike (onRoots named t o) (onRoots named s o′)
@@ -115,28 +121,28 @@ module _ (Y : Layout) (s : State) (H : List ℕ) (len : length H ≡ length (s .
   sees : (c : Call) → L.Agrees Y s H (L.sight c) → Alike (step Y c t) (step Y c s)
   unfolding step Calls.collect Calls.check Calls.allocate Calls.setInteger Calls.setNull Calls.copy Calls.load Calls.store
       Calls.rawRead Calls.rawWrite Calls.same Calls.inspect
-  sees Ask.Collect g = rw g (record { answer = refl; roots = refl; «record» = refl })
-  sees Ask.Check g = rw g (record { answer = refl; roots = refl; «record» = refl })
-  sees (Ask.Allocate k n r) g = rw g (record { answer = refl; roots = refl; «record» = refl })
+  sees Ask.Collect g = rw g but-heap
+  sees Ask.Check g = rw g but-heap
+  sees (Ask.Allocate k n r) g = rw g but-heap
   sees (Ask.SetInteger r v) g =
-      roots-alike (r ∷ []) _ _ (refuse-alike _ _ Why.Range _ _ refl (λ e. record { answer = refl; roots = refl; «record» = refl }))
-  sees (Ask.SetNull r) g = roots-alike (r ∷ []) _ _ (record { answer = refl; roots = refl; «record» = refl })
-  sees (Ask.Copy from to) g = roots-alike (from ∷ to ∷ []) _ _ (record { answer = refl; roots = refl; «record» = refl })
-  sees (Ask.Same r q) g = roots-alike (r ∷ q ∷ []) _ _ (record { answer = refl; roots = refl; «record» = refl })
+      roots-alike (r ∷ []) _ _ (refuse-alike _ _ Why.Range _ _ refl (λ e. but-heap))
+  sees (Ask.SetNull r) g = roots-alike (r ∷ []) _ _ but-heap
+  sees (Ask.Copy from to) g = roots-alike (from ∷ to ∷ []) _ _ but-heap
+  sees (Ask.Same r q) g = roots-alike (r ∷ q ∷ []) _ _ but-heap
   sees (Ask.Load r f to) g =
       roots-alike (r ∷ to ∷ []) _ _
       (field-alike r g Traced f _ _ (λ l. record { answer = refl; roots = ap (λ w. set (s .roots) to w) (g .fields f l); «record» = refl }))
   sees (Ask.Store r f from) g =
-      roots-alike (r ∷ from ∷ []) _ _ (field-alike r g Traced f _ _ (λ l. record { answer = refl; roots = refl; «record» = refl }))
+      roots-alike (r ∷ from ∷ []) _ _ (field-alike r g Traced f _ _ (λ l. but-heap))
   sees (Ask.RawRead r f) g =
       roots-alike (r ∷ []) _ _
       (field-alike r g Untraced f _ _ (λ l. record { answer = ap Says.Number (g .fields f l); roots = refl; «record» = refl }))
   sees (Ask.RawWrite r f x) g =
-      roots-alike (r ∷ []) _ _ (field-alike r g Untraced f _ _ (λ l. record { answer = refl; roots = refl; «record» = refl }))
+      roots-alike (r ∷ []) _ _ (field-alike r g Untraced f _ _ (λ l. but-heap))
   sees (Ask.Inspect r) g =
       roots-alike (r ∷ []) _ _
-      (choose-alike (isOdd (rootWord s r)) _ _ _ _ (record { answer = refl; roots = refl; «record» = refl })
-      (choose-alike (isNull (rootWord s r)) _ _ _ _ (record { answer = refl; roots = refl; «record» = refl })
+      (choose-alike (isOdd (rootWord s r)) _ _ _ _ but-heap
+      (choose-alike (isNull (rootWord s r)) _ _ _ _ but-heap
       (refuse-alike _ _ Why.Object _ _ (ap not (same-names r g)) (λ e.
       record { answer = rw (same-kind r g, same-count r g); roots = refl; «record» = refl }))))
 
