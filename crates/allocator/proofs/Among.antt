@@ -1,14 +1,14 @@
 -- A collection that is lent the first roots, where these are all of them. Assumes nothing.
 use Prim.Native.Nat.{ℕ}
 use native.Mathlib.Omega.{arith}
-use mathlib.Core.Path.{_≡_, ap, _∙_, sym}
+use mathlib.Core.Path.{_≡_, ap, _∙_}
 use mathlib.Core.Bool.{true}
 use mathlib.Core.List.{List, [], _++_, append-nil}
 use lib.ListN.{length, take, drop, drop-of-length-le}
 use lib.Seq.{take-all}
 use Rattle.model.specs.declared.Record.{Record}
 use Rattle.model.specs.declared.Answer.the-variants as Says
-use Rattle.model.specs.Words.{State, lent}
+use Rattle.model.specs.Words.{lent}
 use Rattle.model.specs.Headers.{Layout}
 use Rattle.model.specs.Soundness.{sound}
 use Rattle.model.specs.Answers.{says}

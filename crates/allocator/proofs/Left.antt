@@ -9,8 +9,9 @@ use Rattle.model.specs.declared.Answer.the-variants as Says
 use Rattle.model.specs.Words.{State, lent}
 use Rattle.model.specs.Headers.{Layout}
 use Rattle.model.specs.Soundness.{sound}
-use Rattle.model.specs.Collection.{live, collected}
+use Rattle.model.specs.Collection.{collected}
 use Rattle.model.specs.Answers.{Outcome, says}
+use Rattle.allocator.specs.Retrying.{collection}
 use Rattle.model.proofs.Shape.{Shaped}
 use Rattle.model.proofs.Soundness.{sound-parts}
 use Rattle.model.proofs.Collected.{new-roots}
@@ -18,7 +19,7 @@ use Rattle.model.proofs.CollectedSound.{new-shape}
 
 -- from its answer and the check before it, which changed nothing
 pub left-is : (Y : Layout) (h₁ h rs : List ℕ) (q : Record) → h₁ ≡ h → (n : ℕ) (s′ : State)
-    → says (Says.Live n) s′ ≡ says (Says.Live (live Y (lent h₁ rs q))) (collected Y (lent h₁ rs q)) → s′ ≡ collected Y (lent h rs q)
+    → says (Says.Live n) s′ ≡ collection Y (lent h₁ rs q) → s′ ≡ collected Y (lent h rs q)
 left-is Y h₁ h rs q same n s′ e = ap (λ (o : Outcome State). o .left) e ∙ ap (λ (x : List ℕ). collected Y (lent x rs q)) same
 
 -- it has its shape, and as many roots

@@ -1,15 +1,15 @@
 // Allocate: place the object if it fits; if not, collect first and try once more.
 ghost use mathlib.Core.Path.{_≡_};
+ghost use mathlib.Core.Bool.{true};
 ghost use Prim.Native.Nat.{_≤_, _<_};
 ghost use lib.ListN.{length};
+ghost use Rattle.model.specs.declared.Answer.the-variants as Says;
 ghost use Rattle.model.specs.Limits.{maxFields};
 ghost use Rattle.model.specs.Words.{lent};
 ghost use Rattle.model.specs.Headers as Layouts;
+ghost use Rattle.model.specs.Soundness.{sound};
 ghost use Rattle.model.specs.Answers.{says, outcome};
 ghost use Rattle.model.specs.Calls as Calls;
-ghost use mathlib.Core.Bool.{true};
-ghost use Rattle.model.specs.declared.Answer.the-variants as Says;
-ghost use Rattle.model.specs.Soundness.{sound};
 ghost use Rattle.allocator.specs.Retrying.{collection, retried};
 use engine::Collected;
 use model::Answer;
