@@ -10,9 +10,11 @@ use Rattle.model.specs.declared.Place.{Place}
 use Rattle.model.specs.Words.{State}
 use Rattle.model.specs.Headers.{Layout}
 use Rattle.model.specs.Answers.{told}
+use Rattle.model.specs.Calls.{fresh}
 use Rattle.model.specs.Window.{windowWord}
 use Rattle.model.specs.Sessions.{step}
 use Rattle.crossing.specs.declared.CRecord.{CRecord}
+use Rattle.crossing.specs.declared.CWindow.{CWindow}
 use Rattle.crossing.specs.Numbers.{Given, given, noHalf, numbersOf, recordOf, result, collected, answer, seen, windowNumbers, wordAt}
 
 -- a promise is an equation `given .. ≡ g`: any two outcomes that it allows are equal
@@ -42,5 +44,9 @@ pub record AnswersApart (Y : Layout) : Type 0 where
   pub inSeen : (r : ℕ) (s s′ : State)
       → seen (told (step Y (Ask.Inspect r) s .answer)) ≡ seen (told (step Y (Ask.Inspect r) s′ .answer))
       → step Y (Ask.Inspect r) s .answer ≡ step Y (Ask.Inspect r) s′ .answer
+  pub inFresh : (s s′ : State) (q q′ : CRecord) → result (told (fresh s .answer)) q ≡ result (told (fresh s′ .answer)) q′
+      → fresh s .answer ≡ fresh s′ .answer
+  pub inWord : (H H′ : List ℕ) (w w′ : CWindow) (f f′ : ℕ) → answer (told (wordAt H w f)) ≡ answer (told (wordAt H′ w′ f′))
+      → wordAt H w f ≡ wordAt H′ w′ f′
   -- and so can the places of windows
   pub inWindow : (p p′ : Place) → windowNumbers p ≡ windowNumbers p′ → p ≡ p′

@@ -1,16 +1,13 @@
--- What each call comes to where nothing refuses it, and what that changes, word by word. Assumes nothing.
+-- What each call comes to where nothing refuses it. Assumes nothing.
 use Prim.Native.Nat.{ℕ, _+_, _≤_, _<_}
 use native.Mathlib.Omega.{arith}
-use native.Mathlib.Nat.{add-zero}
 use mathlib.Core.Path.{_≡_, refl, sym, ap, _∙_, subst}
 use mathlib.Core.Logic.{⊎-elim}
 use mathlib.Core.Bool.{Bool, true, false, cond}
 use mathlib.Core.List.{List, [], _∷_, List·Memᴰ, List·Memᴰ·head, List·Memᴰ·tail}
 use lib.Dec.{eqb}
 use lib.IntN.{ℤ}
-use lib.ListN.{length, replicate, length-set, length-replicate, getD-replicate}
-use lib.Seq.{sets, length-sets, getD-set-same, getD-set-other}
-use native.Mathlib.Numerals.{add-one}
+use lib.ListN.{length}
 use borrow.Author.Tests.{leb-false, le-leb, lt-leb, not-false}
 use Rattle.model.specs.declared.Kind.{Kind}
 use Rattle.model.specs.declared.Kind.the-variants.{Traced, Untraced}
@@ -28,17 +25,17 @@ use Rattle.model.specs.Conditions.{Decides}
 use Rattle.model.specs.Demand1 as D1
 use Rattle.model.specs.Effects as E
 use Rattle.model.specs.Headers.{Layout}
-use Rattle.model.specs.Objects.{address, index, kind, fieldCount, names}
+use Rattle.model.specs.Objects.{index, kind, fieldCount, names}
 use Rattle.model.specs.Refusals as Row
 use Rattle.model.specs.Sessions.{step}
 use Rattle.model.specs.Soundness.{sound}
 use Rattle.model.specs.Values.{isOdd, isNull, tag, untag}
-use Rattle.model.specs.Words.{State, at, free}
+use Rattle.model.specs.Words.{State, at}
+use Rattle.model.proofs.Changed.{root-changed, word-changed, new-object}
 use Rattle.model.proofs.Collected.{new-roots}
 use Rattle.model.proofs.CollectedSound.{new-shape}
 use Rattle.model.proofs.Conditions.{roots-decide, count-decides, range-decides, object-decides, value-decides, kind-decides, field-decides}
 use Rattle.model.proofs.Deciding.{shape-decides, other-address, names-decides, sound-decides}
-use Rattle.model.proofs.Lists.{sets-before, sets-in, sets-past}
 use Rattle.model.proofs.Shape.{Shaped, shaped, first-in}
 use Rattle.model.proofs.Soundness.{SoundTests, sound-parts, sound-whole}
 use Rattle.model.proofs.Tests.{by-test, decide}
@@ -50,57 +47,6 @@ fails-test {b} d n = ⊎-elim (λ (e : b ≡ true). absurd (n (d .holds e))) (λ
 -- "done" with a change
 pub done-with : {o : Outcome State} (P : State → Type 0) (t : State) → o ≡ says Says.Done t → P t → E.Done o P
 done-with P t e p = (ap (λ z. z .answer) e, subst P (sym (ap (λ z. z .left) e)) p)
-
--- ---- changes, word by word
-
-root-changed : (s : State) (r w : ℕ) → r < length (s .roots) → E.RootChanged s r w (withRoot s r w)
-root-changed s r w l = record {
-  word = getD-set-same (s .roots) r w 0 l;
-  others = λ q n. getD-set-other (s .roots) r q w 0 n;
-  count = length-set (s .roots) r w;
-  sameHeap = refl;
-  sameRecord = refl;
-}
-
-word-changed : (s : State) (i w : ℕ) → i < length (s .heap) → E.WordChanged s i w (withWord s i w)
-word-changed s i w l = record {
-  word = getD-set-same (s .heap) i w 0 l;
-  others = λ j n. getD-set-other (s .heap) i j w 0 n;
-  sameLength = length-set (s .heap) i w;
-  sameRoots = refl;
-  sameRecord = refl;
-}
-
-pub new-object : (Y : Layout) (k : Kind) (n r : ℕ) (s : State) → Shaped s → r < length (s .roots) → n + 1 ≤ spare s
-    → E.NewObject Y k n r s (placed Y k n r s)
-unfolding placed
-new-object Y k n r s h l f =
-    let ws = Y .header k n ∷ replicate n 0 in
-    let z : length {A = ℕ} (replicate n 0) ≡ n = length-replicate n 0 in
-    let b = first-in s h in
-    let fit : free s + length ws ≤ length (s .heap) = omega (arith, h .low) in
-    record {
-      header = ap (λ x. at (sets (s .heap) (free s) ws) x) (sym (add-zero (free s))) ∙ sets-in (s .heap) (free s) ws 0 fit (omega arith);
-      zeros = λ f m.
-          let e : free s + 1 + f ≡ free s + (f + 1) = omega arith in
-          ap (λ x. at (sets (s .heap) (free s) ws) x) e
-          ∙ sets-in (s .heap) (free s) ws (f + 1) fit (omega arith)
-          ∙ later n f m;
-      others = λ i c.
-          ⊎-elim (λ (a : i < free s). sets-before (s .heap) (free s) ws i a)
-          (λ (a : free s + (n + 1) ≤ i). sets-past (s .heap) (free s) ws i (omega arith)) c;
-      sameLength = length-sets (s .heap) (free s) ws;
-      root = getD-set-same (s .roots) r (address Y (free s)) 0 l;
-      otherRoots = λ q d. getD-set-other (s .roots) r q (address Y (free s)) 0 d;
-      rootCount = length-set (s .roots) r (address Y (free s));
-      sameHalf = refl;
-      freeIs = refl;
-    }
-  where
-    later : (n f : ℕ) → f < n → at (Y .header k n ∷ replicate n 0) (f + 1) ≡ 0
-    later n f m = ap (λ x. at (Y .header k n ∷ replicate n 0) x) (add-one f) ∙ getD-replicate n f 0 0 m
-
--- ---- the calls
 
 module _ (Y : Layout) (s : State) where
   -- past SHAPE and ROOT

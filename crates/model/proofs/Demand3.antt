@@ -3,8 +3,6 @@ use Prim.Native.Nat.{ℕ, _+_, _≤_, _<_}
 use native.Mathlib.Omega.{arith}
 use mathlib.Core.Path.{_≡_, refl, sym, ap, _∙_, subst}
 use mathlib.Core.Logic.{⊎-elim, _↔_}
-use mathlib.Core.Bool.{false}
-use lib.Dec.{eqb}
 use lib.ListN.{length}
 use borrow.Author.Tests.{lt-ltb, le-ltb, le-leb, lt-leb}
 use Rattle.model.specs.declared.Kind.{Kind}
@@ -13,7 +11,7 @@ use Rattle.model.specs.declared.Refusal.the-variants as Why
 use Rattle.model.specs.declared.Answer.the-variants as Says
 use Rattle.model.specs.declared.Call.{Call}
 use Rattle.model.specs.declared.Call.the-variants as Ask
-use Rattle.model.specs.Answers.{refuse, number}
+use Rattle.model.specs.Answers.{refuse}
 use Rattle.model.specs.Demand3 as D3
 use Rattle.model.specs.Graph.{Graph, emptyGraph, totalWords, graphOrder}
 use Rattle.model.specs.GraphCalls.{graphStep, graphAfter}
@@ -30,12 +28,12 @@ use Rattle.model.proofs.GraphClosed.{session-known}
 use Rattle.model.proofs.GraphReach.{lists-whole, live-listed}
 use Rattle.model.proofs.Headers.{tuple-lawful}
 use Rattle.model.proofs.KeepSound.{stays-sound}
-use Rattle.model.proofs.PlainAnswers.{done-plainly}
+use Rattle.model.proofs.PlainAnswers.{not-room, done-plainly}
 use Rattle.model.proofs.Represents.{parts, represents-known, Agrees}
 use Rattle.model.proofs.Session.{step-goes, runs, after-represents, session-refuses}
 use Rattle.model.proofs.Standing.{sound-represents}
 use Rattle.model.proofs.Start.{begun-represents, begun-half}
-use Rattle.model.proofs.Tests.{never, decide}
+use Rattle.model.proofs.Tests.{decide}
 use Rattle.model.proofs.Values.{some-same}
 use Rattle.model.proofs.Visits.{no-some}
 
@@ -120,15 +118,11 @@ module _ (Y : Layout) (law : WritesBoth Y) where
       (t .1)
       (room-here (after (machine Y) cs s) (graphAfter (D3.carriedOut (machine Y) cs s) g) (t .0) c)
 
-  -- a refusal that neither the graph nor a full heap gives
-  not-given : (k : Refusal) → eqb (number k) 9 ≡ false → k ≡ Why.Room → ⊥
-  not-given k e q = never refl (ap (λ z. eqb (number z) 9) (sym q) ∙ e)
-
   never-shape : (s : State) (g : Graph) → Represents Y s g → D3.Never (machine Y) Why.Shape s
-  never-shape s g m cs = session-refuses Y law cs s g m Why.Shape (not-given Why.Shape refl) refl
+  never-shape s g m cs = session-refuses Y law cs s g m Why.Shape (not-room Why.Shape refl) refl
 
   never-damaged : (s : State) (g : Graph) → Represents Y s g → D3.Never (machine Y) Why.Damaged s
-  never-damaged s g m cs = session-refuses Y law cs s g m Why.Damaged (not-given Why.Damaged refl) refl
+  never-damaged s g m cs = session-refuses Y law cs s g m Why.Damaged (not-room Why.Damaged refl) refl
 
   pub demand3-of : D3.Demand3 Y (machine Y)
   demand3-of = record {

@@ -22,6 +22,7 @@ use Rattle.model.specs.Words.{State}
 use Rattle.model.proofs.CallsPass.{fails-test, done-with, set-integer, set-null, copies, loads, stores, raw-writes, raw-reads, checks, sames, seen, objectSeen, inspects, allocates-now, allocates-then}
 use Rattle.model.proofs.Deciding.{length-decides, sound-decides}
 use Rattle.model.proofs.Lists.{getD-same}
+use Rattle.model.proofs.PlainAnswers.{no-yes}
 use Rattle.model.proofs.Start.{fresh-good}
 
 -- one of two answers by a test, and the condition that the test decides
@@ -38,9 +39,6 @@ equal-decides a b = record { holds = eqb-true a b; fails = eqb-false a b }
 
 sound-unsound : Says.Unsound ≡ Says.Sound → ⊥
 sound-unsound e = let z : _≡_ {A = ℕ} 0 1 = cc in omega arith
-
-yes-no : Says.No ≡ Says.Yes → ⊥
-yes-no e = let z : _≡_ {A = ℕ} 0 1 = cc in omega arith
 
 fresh-clears : (s : State) → (C.BadLength s → ⊥) → E.Done (fresh s) (E.Cleared s)
 fresh-clears s n =
@@ -82,11 +80,11 @@ module _ (Y : Layout) where
     rawWrite = λ r f x s. raw-writes Y s r f x;
     sameYes = λ r q s p.
         rw (sames Y s r q p)
-        (chosen-true (eqb (rootWord s r) (rootWord s q)) Says.Yes Says.No (equal-decides (rootWord s r) (rootWord s q)) yes-no);
+        (chosen-true (eqb (rootWord s r) (rootWord s q)) Says.Yes Says.No (equal-decides (rootWord s r) (rootWord s q)) no-yes);
     sameNo = λ r q s p.
         rw (sames Y s r q p)
         (chosen-false (eqb (rootWord s r) (rootWord s q)) Says.Yes Says.No (equal-decides (rootWord s r) (rootWord s q))
-        (λ e. yes-no (sym e)));
+        (λ e. no-yes (sym e)));
     sameLeaves = λ r q s p. ap (λ o. o .left) (sames Y s r q p);
     inspectNull = λ r s p e. ap (λ o. o .answer) (inspects Y s r p) ∙ seen-null s (rootWord s r) e;
     inspectInteger = λ r s p e. ap (λ o. o .answer) (inspects Y s r p) ∙ seen-integer s (rootWord s r) e;

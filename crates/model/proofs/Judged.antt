@@ -1,9 +1,9 @@
 -- Every session call by the rows of its refusals: the first that applies is given, and what it then leaves. Assumes nothing.
 use Prim.Native.Nat.{ℕ, _%_}
 use native.Mathlib.Omega.{arith}
-use mathlib.Core.Path.{_≡_, refl, sym, ap, _∙_}
+use mathlib.Core.Path.{_≡_, refl}
 use mathlib.Core.Logic.{inl, inr}
-use mathlib.Core.Bool.{Bool, true, false, not, true≢false}
+use mathlib.Core.Bool.{Bool, true, false}
 use mathlib.Core.List.{List, [], _∷_}
 use lib.Dec.{eqb}
 use lib.ListN.{length}
@@ -32,7 +32,7 @@ use Rattle.model.specs.Shape.{badShape}
 use Rattle.model.specs.Soundness.{sound}
 use Rattle.model.specs.Values.{isOdd, isNull}
 use Rattle.model.specs.Words.{State}
-use Rattle.model.proofs.PlainAnswers.{Plainly, plainly, done-plainly, either-plainly, object-plainly}
+use Rattle.model.proofs.PlainAnswers.{not-room, Plainly, plainly, done-plainly, either-plainly, object-plainly}
 use Rattle.model.proofs.Conditions.{roots-decide, count-decides, range-decides, object-decides, value-decides, kind-decides, field-decides, unsound-decides, called, uncalled, damaged-decides, room-decides}
 use Rattle.model.proofs.Deciding.{shape-decides, other-address}
 use Rattle.model.proofs.Tests.{cond-holds}
@@ -47,19 +47,12 @@ pub data Judged (Y : Layout) (s : State) (qs : List Row.Row) : Outcome State →
   by-row : {o : Outcome State} (k : Refusal) → D1.First qs k → o .answer ≡ Says.Refused k → Left Y s k (o .left) → Judged Y s qs o
   by-none : {o : Outcome State} → D1.None qs → Plainly (o .answer) → Judged Y s qs o
 
--- ROOM told from the others by its number
-abbrev notRoom : Refusal → Bool
-notRoom k = not (eqb (number k) 9)
-
-not-room : (k : Refusal) → notRoom k ≡ true → k ≡ Why.Room → ⊥
-not-room k e q = true≢false (sym e ∙ ap notRoom q)
-
 module _ (Y : Layout) (s : State) where
   judged-after : (q : Row.Row) (qs : List Row.Row) (o : Outcome State) → (q .applies → ⊥) → Judged Y s qs o → Judged Y s (q ∷ qs) o
   judged-after q qs o n (by-row k f e l) = by-row k (inr (n, f)) e l
   judged-after q qs o n (by-none m p) = by-none (n, m) p
 
-  pub judged-refuse : (b : Bool) (k : Refusal) (P : Type 0) (qs : List Row.Row) (o : Outcome State) → notRoom k ≡ true → Decides b P
+  pub judged-refuse : (b : Bool) (k : Refusal) (P : Type 0) (qs : List Row.Row) (o : Outcome State) → eqb (number k) 9 ≡ false → Decides b P
       → (b ≡ false → Judged Y s qs o)
       → Judged Y s (Row.row k P ∷ qs) (refuse b k s o)
   unfolding refuse

@@ -52,6 +52,7 @@ pub mod Demand1
 pub mod Leaving
 pub mod Lengths
 pub mod KeepSound
+pub mod Changed
 pub mod CallsPass
 pub mod Effects
 pub mod Pinned

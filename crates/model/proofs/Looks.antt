@@ -165,7 +165,7 @@ module _ (Y : Layout) (s : State) (h : SoundTests Y s) where
       (same? q r)
 
   collected-from : From (collected Y s)
-  collected-from q l = L.renamed (rootWord s q) (rootWord (collected Y s) q) (L.oldRoot q l) (collects Y s h .root q l)
+  collected-from q l = L.renamed q (rootWord (collected Y s) q) l (collects Y s h .root q l)
 
   placed-from : (k : Kind) (n r : ℕ) → From (placed Y k n r s)
   unfolding placed

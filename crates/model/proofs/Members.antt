@@ -3,7 +3,7 @@ use Prim.Native.Nat.{ℕ, zero, suc, _<_}
 use native.Mathlib.Omega.{arith}
 use mathlib.Core.Path.{_≡_, refl, sym, ap}
 use mathlib.Core.Logic.{_⊎_, inl, inr, ⊎-elim}
-use mathlib.Core.Bool.{Bool, true, false, _||_, or-assoc}
+use mathlib.Core.Bool.{Bool, true, false, cond, _||_, or-assoc}
 use mathlib.Core.List.{List, [], _∷_, _++_, map, List·Memᴰ, List·Memᴰ·head, List·Memᴰ·tail}
 use lib.Dec.{eqb}
 use lib.ListN.{length, getD, take}
@@ -140,13 +140,21 @@ distinct-once (x ∷ o) u (suc k) zero a b e = absurd (in-out (getD o k 0) x o (
 distinct-once (x ∷ o) u (suc k) (suc l) a b e = ap suc (distinct-once o (u .1) k l (omega arith) (omega arith) e)
 
 -- the place of a member
-pub position : (x : ℕ) (o : List ℕ) → In x o → (a : ℕ) × (a < length o) × (getD o a 0 ≡ x)
-position x [] m = in-nil x m
-position x (y ∷ o) m =
+unfoldable pub place : ℕ → List ℕ → ℕ
+place x [] = 0
+place x (y ∷ ys) = cond (eqb x y) 0 (suc (place x ys))
+
+pub place-at : (x : ℕ) (o : List ℕ) → In x o → (place x o < length o) × (getD o (place x o) 0 ≡ x)
+unfolding place
+place-at x [] m = in-nil x m
+place-at x (y ∷ o) m =
     ⊎-elim
-    (λ (e : x ≡ y). (zero, omega arith, sym e))
-    (λ (n : In x o). let t = position x o n in (suc (t .0), let l = t .1 in omega arith, t .2))
-    (in-cons x y o m)
+    (λ (e : eqb x y ≡ true). rw e (omega arith, sym (eqb-true x y e)))
+    (λ (e : eqb x y ≡ false). let ih = place-at x o (in-other x y o m e) in rw e (let l = ih .0 in omega arith, ih .1))
+    (by-test (eqb x y))
+
+pub position : (x : ℕ) (o : List ℕ) → In x o → (a : ℕ) × (a < length o) × (getD o a 0 ≡ x)
+position x o m = let p = place-at x o m in (place x o, p .0, p .1)
 
 pub once-distinct : (o : List ℕ) → D.EachOnce o → Distinct o
 once-distinct [] u = tt

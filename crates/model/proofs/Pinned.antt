@@ -4,6 +4,7 @@ use native.Mathlib.Omega.{arith}
 use mathlib.Core.Path.{_≡_, refl, sym, ap, _∙_, subst}
 use mathlib.Core.Logic.{_⊎_, inl, inr, ⊎-elim}
 use mathlib.Core.Bool.{true, false}
+use mathlib.Core.List.{List}
 use lib.ListN.{length}
 use lib.Seq.{ext-getD}
 use borrow.Author.Tests.{eqb-true, not-false}
@@ -41,26 +42,23 @@ use Rattle.model.proofs.Tests.{by-test, decide, same?}
 
 -- ---- each change leaves one state
 
+-- two runs of one length that hold the same at r, and elsewhere
+same-at : (xs ys : List ℕ) (r : ℕ) → length xs ≡ length ys → at xs r ≡ at ys r → ((q : ℕ) → (q ≡ r → ⊥) → at xs q ≡ at ys q) → xs ≡ ys
+same-at xs ys r n e f =
+    ext-getD 0 xs ys n
+    (λ q l. ⊎-elim (λ (z : q ≡ r). subst (λ i. at xs i ≡ at ys i) (sym z) e) (λ (d : q ≡ r → ⊥). f q d) (same? q r))
+
 one-root : (s : State) (r w : ℕ) (t t′ : State) → E.RootChanged s r w t → E.RootChanged s r w t′ → t ≡ t′
 one-root s r w t t′ c c′ =
     same-state t t′ (c .sameHeap ∙ sym (c′ .sameHeap))
-    (ext-getD 0 (t .roots) (t′ .roots) (c .count ∙ sym (c′ .count))
-    (λ q l.
-    ⊎-elim
-    (λ (e : q ≡ r). subst (λ z. at (t .roots) z ≡ at (t′ .roots) z) (sym e) (c .word ∙ sym (c′ .word)))
-    (λ (n : q ≡ r → ⊥). c .others q n ∙ sym (c′ .others q n))
-    (same? q r)))
+    (same-at (t .roots) (t′ .roots) r (c .count ∙ sym (c′ .count)) (c .word ∙ sym (c′ .word)) (λ q d. c .others q d ∙ sym (c′ .others q d)))
     (c .sameRecord ∙ sym (c′ .sameRecord))
 
 one-word : (s : State) (i w : ℕ) (t t′ : State) → E.WordChanged s i w t → E.WordChanged s i w t′ → t ≡ t′
 one-word s i w t t′ c c′ =
     same-state t t′
-    (ext-getD 0 (t .heap) (t′ .heap) (c .sameLength ∙ sym (c′ .sameLength))
-    (λ j l.
-    ⊎-elim
-    (λ (e : j ≡ i). subst (λ z. at (t .heap) z ≡ at (t′ .heap) z) (sym e) (c .word ∙ sym (c′ .word)))
-    (λ (n : j ≡ i → ⊥). c .others j n ∙ sym (c′ .others j n))
-    (same? j i)))
+    (same-at (t .heap) (t′ .heap) i (c .sameLength ∙ sym (c′ .sameLength)) (c .word ∙ sym (c′ .word))
+    (λ j d. c .others j d ∙ sym (c′ .others j d)))
     (c .sameRoots ∙ sym (c′ .sameRoots)) (c .sameRecord ∙ sym (c′ .sameRecord))
 
 cleared-once : (s t t′ : State) → E.Cleared s t → E.Cleared s t′ → t ≡ t′
@@ -75,12 +73,8 @@ module _ (Y : Layout) where
   one-object k n r s t t′ c c′ =
       same-state t t′
       (ext-getD 0 (t .heap) (t′ .heap) (c .sameLength ∙ sym (c′ .sameLength)) (λ i l. word i))
-      (ext-getD 0 (t .roots) (t′ .roots) (c .rootCount ∙ sym (c′ .rootCount))
-      (λ q l.
-      ⊎-elim
-      (λ (e : q ≡ r). subst (λ z. at (t .roots) z ≡ at (t′ .roots) z) (sym e) (c .root ∙ sym (c′ .root)))
-      (λ (d : q ≡ r → ⊥). c .otherRoots q d ∙ sym (c′ .otherRoots q d))
-      (same? q r)))
+      (same-at (t .roots) (t′ .roots) r (c .rootCount ∙ sym (c′ .rootCount)) (c .root ∙ sym (c′ .root))
+      (λ q d. c .otherRoots q d ∙ sym (c′ .otherRoots q d)))
       (same-record (t .«record») (t′ .«record») (c .sameHalf ∙ sym (c′ .sameHalf)) (c .freeIs ∙ sym (c′ .freeIs)))
     where
       outside : (i : ℕ) → (i < free s) ⊎ (free s + (n + 1) ≤ i) → at (t .heap) i ≡ at (t′ .heap) i

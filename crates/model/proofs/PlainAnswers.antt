@@ -2,7 +2,8 @@
 use Prim.Native.Nat.{ℕ}
 use native.Mathlib.Omega.{arith}
 use mathlib.Core.Path.{_≡_, refl, sym, _∙_, ap}
-use mathlib.Core.Bool.{Bool, cond}
+use mathlib.Core.Bool.{Bool, false, cond}
+use lib.Dec.{eqb}
 use Rattle.model.specs.declared.Kind.{Kind}
 use Rattle.model.specs.declared.Kind.the-variants.{Traced, Untraced}
 use Rattle.model.specs.declared.Refusal.{Refusal}
@@ -12,10 +13,17 @@ use Rattle.model.specs.declared.Answer.the-variants as Says
 use Rattle.model.specs.Answers.{number, told}
 use Rattle.model.specs.Graph.{Plain, integer, null}
 use Rattle.model.specs.GraphCalls.{plainAnswer}
-use Rattle.model.proofs.Tests.{cond-holds}
+use Rattle.model.proofs.Tests.{cond-holds, never}
 
 pub refused-same : (j k : Refusal) → Says.Refused j ≡ Says.Refused k → j ≡ k
 refused-same j k e = cc
+
+-- ROOM told from the others by its number
+pub not-room : (k : Refusal) → eqb (number k) 9 ≡ false → k ≡ Why.Room → ⊥
+not-room k e q = never refl (sym (ap (λ z. eqb (number z) 9) q) ∙ e)
+
+pub no-yes : Says.No ≡ Says.Yes → ⊥
+no-yes e = let z : _≡_ {A = ℕ} 0 1 = cc in omega arith
 
 -- no refusal has the number 0
 pub no-zero : (k : Refusal) → number k ≡ 0 → ⊥

@@ -46,9 +46,12 @@ abbrev pub careless : Machine
 careless = changed (λ c s o. cond (sound tuple s || isRefusal (o .answer)) o
     (says Says.Sound (lent (replicate (length (s .heap)) 0) (replicate (length (s .roots)) 0) (s .«record»))))
 
--- word 0 is 7, all else is as it should be
+-- word 0 is w, all else is as it should be
+abbrev pub word0 : ℕ → State
+word0 w = Worked.state A 1 (w ∷ 0 ∷ 0 ∷ []) []
+
 abbrev seven : State
-seven = Worked.state A 1 (7 ∷ 0 ∷ 0 ∷ []) []
+seven = word0 7
 
 seven-unsound : C.Sound tuple seven → ⊥
 seven-unsound h = let z : _≡_ {A = ℕ} 7 0 = h .reserved in omega arith

@@ -1,5 +1,5 @@
 -- Wrong machines that look at more than they may or cannot be told apart, and the sentence that each of them breaks. Assumes nothing.
-use Prim.Native.Nat.{ℕ, zero, suc, _%_}
+use Prim.Native.Nat.{ℕ, zero, suc, _%_, _<_}
 use native.Mathlib.Omega.{arith}
 use mathlib.Core.Path.{_≡_, refl, sym, ap, _∙_}
 use mathlib.Core.Logic.{_⊎_, inl, inr, ⊎-elim}
@@ -31,7 +31,9 @@ use Rattle.model.specs.Words.{State, at, free}
 use Rattle.model.specs.Worked as Worked
 use Rattle.model.proofs.Deciding.{sound-decides}
 use Rattle.model.proofs.Integers.{tag-odd}
+use Rattle.model.proofs.PlainAnswers.{no-yes}
 use Rattle.model.proofs.Rivals.{changed, is, checks, compares, loads}
+use Rattle.model.proofs.RivalsOfEffects.{word0}
 use Rattle.model.proofs.Tests.{by-test, never}
 
 -- ---- same looks at a heap word
@@ -41,9 +43,6 @@ sameByWord1 = changed (λ c s o. cond (is compares c) (says (cond (eqb (at (s .h
 
 abbrev blank3 : State
 blank3 = Worked.state A 1 (replicate 3 0) (0 ∷ [])
-
-no-yes : Says.No ≡ Says.Yes → ⊥
-no-yes e = let z : _≡_ {A = ℕ} 0 1 = cc in omega arith
 
 pub same-by-word-1-breaks-sees : L.Looks tuple sameByWord1 → ⊥
 same-by-word-1-breaks-sees l = no-yes (l .sees (Ask.Same 0 0) blank3 (0 ∷ 5 ∷ 0 ∷ []) refl tt .answer)
@@ -80,19 +79,22 @@ kind-is = refl
 address-fits : (i : ℕ) → Fit (address tuple i)
 address-fits i = inr (omega arith)
 
+root-fits : (r : ℕ) → r < 1 → Fit (rootWord raw6 r)
+root-fits zero l = inr refl
+root-fits (suc r) l = absurd (omega arith)
+
 fit : (w : ℕ) → L.Origin tuple raw6 w → Fit w
-fit w (L.oldRoot zero l) = inr refl
-fit w (L.oldRoot (suc r) l) = absurd (omega arith)
+fit w (L.oldRoot r l) = root-fits r l
+fit w (L.renamed r v l b) =
+    ⊎-elim
+    (λ (p : isAddress (rootWord raw6 r) ≡ true). rw (b .moves p) (address-fits (D.copyIndex tuple raw6 (index tuple (rootWord raw6 r)))))
+    (λ (p : isAddress (rootWord raw6 r) ≡ false). rw (b .stays p) (root-fits r l))
+    (by-test (isAddress (rootWord raw6 r)))
 fit w (L.field i f m k l) =
     let e : i ≡ 1 = List·Memᴰ·eq-of-singleton (rw headers-are at m) in
     absurd (traced-no (sym kind-is ∙ ap (λ j. kind tuple (raw6 .heap) j) (sym e) ∙ k))
 fit w (L.integer v e) = inl (tag-odd v e)
 fit w L.null = inr refl
-fit w (L.renamed u v o b) =
-    ⊎-elim
-    (λ (p : isAddress u ≡ true). rw (b .moves p) (address-fits (D.copyIndex tuple raw6 (index tuple u))))
-    (λ (p : isAddress u ≡ false). rw (b .stays p) (fit u o))
-    (by-test (isAddress u))
 fit w L.placed = address-fits (free raw6)
 fit w L.placedThen = address-fits (free (collected tuple raw6))
 
@@ -107,12 +109,9 @@ loads-raw-breaks-enters l =
 abbrev pub hushed : Machine
 hushed = changed (λ c s o. cond (is checks c && eqb (at (s .heap) 0) 7) (says Says.Done s) o)
 
-abbrev word0 : ℕ → State
-word0 w = Worked.state A 1 (w ∷ 0 ∷ 0 ∷ []) []
-
 done-unsound : Says.Done ≡ Says.Unsound → ⊥
 done-unsound e = let z : _≡_ {A = ℕ} 0 1 = cc in omega arith
 
 pub hushed-breaks-told-apart : Law.ToldApart hushed → ⊥
 unfolding tuple step refuse Calls.check badShapeOf sound
-hushed-breaks-told-apart t = done-unsound (t Ask.Check (word0 7) (word0 8) refl)
+hushed-breaks-told-apart t = done-unsound (t .session Ask.Check (word0 7) (word0 8) refl)

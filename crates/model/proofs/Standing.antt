@@ -4,10 +4,10 @@ use native.Mathlib.Omega.{arith}
 use mathlib.Core.Path.{_≡_, refl, sym, ap, _∙_}
 use mathlib.Core.Logic.{⊎-elim}
 use mathlib.Core.Bool.{true, false, cond}
-use mathlib.Core.List.{List, [], _∷_, map}
-use lib.Dec.{ltb, eqb}
+use mathlib.Core.List.{List, [], map}
+use lib.Dec.{ltb}
 use lib.ListN.{length, getD, length-map}
-use borrow.Author.Tests.{ltb-true, eqb-true, eq-eqb, ne-eqb}
+use borrow.Author.Tests.{ltb-true, ne-eqb}
 use Rattle.model.specs.declared.Kind.{Kind}
 use Rattle.model.specs.declared.Kind.the-variants.{Traced, Untraced}
 use Rattle.model.specs.Conditions as C
@@ -25,32 +25,13 @@ use Rattle.model.proofs.GraphWords.{below, in-below, below-in}
 use Rattle.model.proofs.Keeping.{tile}
 use Rattle.model.proofs.Laws.{integer-law}
 use Rattle.model.proofs.Lists.{getD-map}
-use Rattle.model.proofs.Members.{In, in-nil, in-cons, Distinct, distinct-once, at-in, mem-in, Out}
+use Rattle.model.proofs.Members.{place, place-at, In, Distinct, distinct-once, at-in, mem-in, Out}
 use Rattle.model.proofs.Objects.{index-address, field-at, fields-length}
 use Rattle.model.proofs.Order.{free-in}
 use Rattle.model.proofs.Represents.{header-is-address}
 use Rattle.model.proofs.Soundness.{SoundTests}
-use Rattle.model.proofs.Tests.{by-test, never}
+use Rattle.model.proofs.Tests.{by-test}
 use Rattle.model.proofs.Tiling.{tiles-step, headers-more, headers-end, headers-tile}
-
--- the place of a number in a list
-unfoldable pub place : ℕ → List ℕ → ℕ
-place x [] = 0
-place x (y ∷ ys) = cond (eqb x y) 0 (suc (place x ys))
-
-place-at : (x : ℕ) (o : List ℕ) → In x o → (place x o < length o) × (getD o (place x o) 0 ≡ x)
-unfolding place
-place-at x [] m = in-nil x m
-place-at x (y ∷ o) m =
-    ⊎-elim
-    (λ (e : eqb x y ≡ true). rw e (omega arith, sym (eqb-true x y e)))
-    (λ (e : eqb x y ≡ false).
-    let ih = place-at x o (⊎-elim (λ (q : x ≡ y). absurd (ne-of e q)) (λ n. n) (in-cons x y o m)) in
-    rw e (let l = ih .0 in omega arith, ih .1))
-    (by-test (eqb x y))
-  where
-    ne-of : eqb x y ≡ false → x ≡ y → ⊥
-    ne-of e q = never (eq-eqb x y q) e
 
 module _ (Y : Layout) where
   -- no header of a tiling stands twice

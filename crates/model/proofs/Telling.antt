@@ -1,9 +1,10 @@
 -- Answers are read back from their numbers, so that equal numbers are equal answers. Assumes nothing.
 use Prim.Native.Nat.{ℕ}
 use mathlib.Core.Path.{_≡_, refl, sym, ap, _∙_}
-use mathlib.Core.Bool.{Bool, cond}
+use mathlib.Core.Bool.{Bool, true, false, cond}
 use mathlib.Core.List.{List, [], _∷_}
-use lib.Dec.{eqb}
+use lib.Dec.{leb, eqb}
+use lib.ListN.{length}
 use borrow.Author.Tests.{ne-eqb}
 use Rattle.model.specs.declared.Kind.{Kind}
 use Rattle.model.specs.declared.Kind.the-variants.{Traced, Untraced}
@@ -13,18 +14,21 @@ use Rattle.model.specs.declared.Answer.{Answer}
 use Rattle.model.specs.declared.Answer.the-variants as Says
 use Rattle.model.specs.declared.Call.{Call}
 use Rattle.model.specs.declared.Call.the-variants as Ask
+use Rattle.model.specs.declared.Place.{Place}
 use Rattle.model.specs.declared.Told.{Told}
 use Rattle.model.specs.Admission.{onRoots}
 use Rattle.model.specs.Answers.{Outcome, says, refuse, number, tells, told}
 use Rattle.model.specs.Calls as Calls
-use Rattle.model.specs.Calls.{onField}
+use Rattle.model.specs.Calls.{onField, fresh}
 use Rattle.model.specs.Changes.{rootWord, fits}
 use Rattle.model.specs.Headers.{Layout}
 use Rattle.model.specs.Laws as Law
 use Rattle.model.specs.Sessions.{step, machine}
+use Rattle.model.specs.Shape.{badLength}
 use Rattle.model.specs.Soundness.{sound}
 use Rattle.model.specs.Values.{isOdd, isNull}
-use Rattle.model.specs.Words.{State}
+use Rattle.model.specs.Window.{shown, windowWord}
+use Rattle.model.specs.Words.{State, at}
 use Rattle.model.proofs.PlainAnswers.{no-zero}
 use Rattle.model.proofs.Tests.{cond-holds}
 
@@ -144,5 +148,37 @@ module _ (Y : Layout) (s : State) where
       go : (o : Outcome State) → Back c o → heard c (told (o .answer)) ≡ o .answer
       go o (back e) = e
 
+-- fresh says "done" or SHAPE, as set null does; a window's word is a number or FIELD, as raw read's answer is
+pub fresh-back : (s : State) → heard (Ask.SetNull 0) (told (fresh s .answer)) ≡ fresh s .answer
+unfolding fresh refuse
+fresh-back s =
+    cond-holds (λ (o : Outcome State). heard (Ask.SetNull 0) (told (o .answer)) ≡ o .answer) (badLength (length (s .heap))) _ _
+    (λ e. refl) (λ e. refl)
+
+pub number-back : (b : Bool) (k : Refusal) (w : ℕ)
+    → heard (Ask.RawRead 0 0) (told (cond b (Says.Refused k) (Says.Number w))) ≡ cond b (Says.Refused k) (Says.Number w)
+number-back true k w = refused-back (Ask.RawRead 0 0) k
+number-back false k w = refl
+
+word-back : (H : List ℕ) (p : Place) (f : ℕ) → heard (Ask.RawRead 0 0) (told (windowWord H p f)) ≡ windowWord H p f
+unfolding windowWord
+word-back H p f = number-back (leb (length (shown H p)) f) Why.Field (at (shown H p) f)
+
+-- what is read back from equal numbers is equal
+apart : (c : Call) (a b : Answer) → heard c (told a) ≡ a → heard c (told b) ≡ b → told a ≡ told b → a ≡ b
+apart c a b e f q = sym e ∙ ap (heard c) q ∙ f
+
+-- of refusal and value alone, but for inspect
+pub apart-by-two : (c : Call) (a b : Answer) → ((r : ℕ) → c ≡ Ask.Inspect r → ⊥) → heard c (told a) ≡ a → heard c (told b) ≡ b
+    → told a .refusal ≡ told b .refusal → told a .value ≡ told b .value → a ≡ b
+apart-by-two c a b n e f q v =
+    sym e ∙ plain-heard c n (told a) ∙ ap (λ k. heard c (tells k 0 (told a .value))) q
+    ∙ ap (λ z. heard c (tells (told b .refusal) 0 z)) v ∙ sym (plain-heard c n (told b)) ∙ f
+
 pub told-apart : (Y : Layout) → Law.ToldApart (machine Y)
-told-apart Y c s s′ e = sym (read-back Y s c) ∙ ap (heard c) e ∙ read-back Y s′ c
+told-apart Y = record {
+  session = λ c s s′ e. apart c (step Y c s .answer) (step Y c s′ .answer) (read-back Y s c) (read-back Y s′ c) e;
+  fresh = λ s s′ e. apart (Ask.SetNull 0) (fresh s .answer) (fresh s′ .answer) (fresh-back s) (fresh-back s′) e;
+  word = λ H H′ p p′ f f′ e.
+      apart (Ask.RawRead 0 0) (windowWord H p f) (windowWord H′ p′ f′) (word-back H p f) (word-back H′ p′ f′) e;
+}

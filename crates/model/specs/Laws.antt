@@ -14,6 +14,7 @@ use Rattle.model.specs.declared.Refusal.the-variants as Why
 use Rattle.model.specs.declared.Answer.the-variants as Says
 use Rattle.model.specs.declared.Answered.{Answered}
 use Rattle.model.specs.declared.Call.{Call}
+use Rattle.model.specs.declared.Place.{Place}
 use Rattle.model.specs.declared.Place.the-variants as Place
 use Rattle.model.specs.Limits.{maxFields}
 use Rattle.model.specs.Words.{State, at}
@@ -73,9 +74,13 @@ pub record KeepsLengths (M : Machine) : Type 0 where
   pub freshRoots : (s : State) → M .fresh s .left .roots ≡ s .roots
 
 -- answers in numbers can be told apart: two answers of one call with equal numbers are equal
-abbrev pub ToldApart : Machine → Type 0
-ToldApart M = (c : Call) (s s′ : State) → told (M .step c s .answer) ≡ told (M .step c s′ .answer)
-    → M .step c s .answer ≡ M .step c s′ .answer
+pub record ToldApart (M : Machine) : Type 0 where
+  pub session : (c : Call) (s s′ : State) → told (M .step c s .answer) ≡ told (M .step c s′ .answer)
+      → M .step c s .answer ≡ M .step c s′ .answer
+  pub fresh : (s s′ : State) → told (M .fresh s .answer) ≡ told (M .fresh s′ .answer) → M .fresh s .answer ≡ M .fresh s′ .answer
+  -- and a window's word
+  pub word : (H H′ : List ℕ) (p p′ : Place) (f f′ : ℕ) → told (windowWord H p f) ≡ told (windowWord H′ p′ f′)
+      → windowWord H p f ≡ windowWord H′ p′ f′
 
 -- a promise is an equation `outcome .. ≡ o`: any two outcomes that it allows have equal answers, records, words and roots
 abbrev pub Settles : Type 0

@@ -62,14 +62,14 @@ module _ (Y : Layout) where
 
   -- where a word of a root may come from, in a sound state
   pub data Origin (s : State) : ℕ → Type 0 where
-    -- an old root's word, a field of a traced object of the tiling, an integer's word, null
+    -- an old root's word, and what a collection makes of it
     oldRoot : (r : ℕ) → r < length (s .roots) → Origin s (rootWord s r)
+    renamed : (r w : ℕ) → r < length (s .roots) → Became Y s (rootWord s r) w → Origin s w
+    -- a field of a traced object of the tiling, an integer's word, null
     field : (i f : ℕ) → List·Memᴰ i (headers Y s) → kind Y (s .heap) i ≡ Traced → f < fieldCount Y (s .heap) i
         → Origin s (at (s .heap) (fieldIndex i f))
     integer : (v : ℤ) → inRange v ≡ true → Origin s (tag v)
     null : Origin s 0
-    -- what a collection makes of such a word
-    renamed : (w w′ : ℕ) → Origin s w → Became Y s w w′ → Origin s w′
     -- the address of a new object, at the free index before or after a collection
     placed : Origin s (address Y (free s))
     placedThen : Origin s (address Y (free (collected Y s)))
