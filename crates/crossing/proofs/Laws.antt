@@ -53,6 +53,6 @@ word-law H (Place.Object i n) f =
     ⊎-elim
     (λ (e : leb (length H) (i .0 + 1 + f) ≡ true). rw (b, e) (sym (word-past-end H i n f (leb-true _ _ e))))
     (λ (e : leb (length H) (i .0 + 1 + f) ≡ false).
-    rw (b, e) (sym (word-itself H i n f (leb-false n f b) (leb-false _ _ e))))
+    rw (b, e) (sym (word-itself H i n f (leb-false n f b) (leb-false _ _ e) (i .0 + 1 + f) refl)))
     (by-test (leb (length H) (i .0 + 1 + f))))
     (by-test (leb n f))

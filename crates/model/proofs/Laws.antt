@@ -80,15 +80,17 @@ module _ (H : List ℕ) (i : Index) (n f : ℕ) where
       let y = length-drop (i .0 + 1) H in
       rw (le-leb (length (take n (drop (i .0 + 1) H))) f (omega arith))
 
-  pub word-itself : f < n → i .0 + 1 + f < length H → windowWord H (Place.Object i n) f ≡ Says.Number (at H (i .0 + 1 + f))
+  -- j is the word's index, however it is reckoned
+  pub word-itself : f < n → i .0 + 1 + f < length H → (j : ℕ) → j ≡ i .0 + 1 + f → windowWord H (Place.Object i n) f ≡ Says.Number (at H j)
   unfolding windowWord
-  word-itself l m =
+  word-itself l m j e =
       let x = length-take n (drop (i .0 + 1) H) in
       let y = length-drop (i .0 + 1) H in
       rw (
         lt-leb (length (take n (drop (i .0 + 1) H))) f (omega arith),
         getD-take n (drop (i .0 + 1) H) f 0 l,
         getD-drop (i .0 + 1) H f 0,
+        e,
       )
 
 pub word-hidden : (H : List ℕ) (k : Refusal) (f : ℕ) → windowWord H (Place.Refused k) f ≡ Says.Refused Why.Field
@@ -111,7 +113,7 @@ shows Y r s i n e =
       fields = sym (o .3) ∙ ap (fieldCount Y (s .heap)) at-i;
       words = len;
       count = refl;
-      word = λ f l. word-itself (s .heap) i n f l (omega (arith, long, l));
+      word = λ f l. word-itself (s .heap) i n f l (omega (arith, long, l)) (i .0 + 1 + f) refl;
       past = word-from-count (s .heap) i n;
     }
 

@@ -49,7 +49,8 @@ returns-4 : tie.Need-returns-4
 returns-4 c =
     let below = c .before .before .before in
     rw (below .before .before .place .given .1)
-    (sym (word-itself _ _ _ _ (omega (arith, below .if1 .left)) (omega (arith, c .before .before .if2 .left, c .before .if3 .left))))
+    (sym (word-itself _ _ _ _ (omega (arith, below .if1 .left)) (omega (arith, c .before .before .if2 .left, c .before .if3 .left))
+    _ (omega arith)))
 
 returns-5 : tie.Need-returns-5
 returns-5 c = rw (c .enum-told .given .1) (sym (word-hidden _ _ _))
