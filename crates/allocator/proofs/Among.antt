@@ -8,7 +8,7 @@ use lib.ListN.{length, take, drop, drop-of-length-le}
 use lib.Seq.{take-all}
 use Rattle.model.specs.declared.Record.{Record}
 use Rattle.model.specs.declared.Answer.the-variants as Says
-use Rattle.model.specs.Words.{lent}
+use Rattle.model.specs.Words.{stateOf}
 use Rattle.model.specs.Headers.{Layout}
 use Rattle.model.specs.Soundness.{sound}
 use Rattle.model.specs.Answers.{says}
@@ -18,13 +18,13 @@ module _ (Y : Layout) (H R : List ℕ) (q : Record) (n : ℕ) (all : n ≡ lengt
   first-all : take n R ≡ R
   first-all = take-all n R (omega arith)
 
-  pub sound-among : sound Y (lent H R q) ≡ true → sound Y (lent H (take n R) q) ≡ true
-  sound-among e = ap (λ (r : List ℕ). sound Y (lent H r q)) first-all ∙ e
+  pub sound-among : sound Y (stateOf H R q) ≡ true → sound Y (stateOf H (take n R) q) ≡ true
+  sound-among e = ap (λ (r : List ℕ). sound Y (stateOf H r q)) first-all ∙ e
 
   pub collected-among : (H′ R′ : List ℕ) (q′ : Record) (l : ℕ)
-      → says (Says.Live l) (lent H′ R′ q′) ≡ collection Y (lent H (take n R) q)
-      → says (Says.Live l) (lent H′ (R′ ++ drop n R) q′) ≡ collection Y (lent H R q)
+      → says (Says.Live l) (stateOf H′ R′ q′) ≡ collection Y (stateOf H (take n R) q)
+      → says (Says.Live l) (stateOf H′ (R′ ++ drop n R) q′) ≡ collection Y (stateOf H R q)
   collected-among H′ R′ q′ l e =
       let none : drop n R ≡ [] = drop-of-length-le R {i = n} (omega arith) in
-      ap (λ (r : List ℕ). says (Says.Live l) (lent H′ r q′)) (ap (λ (r : List ℕ). R′ ++ r) none ∙ append-nil R′)
-      ∙ e ∙ ap (λ (r : List ℕ). collection Y (lent H r q)) first-all
+      ap (λ (r : List ℕ). says (Says.Live l) (stateOf H′ r q′)) (ap (λ (r : List ℕ). R′ ++ r) none ∙ append-nil R′)
+      ∙ e ∙ ap (λ (r : List ℕ). collection Y (stateOf H r q)) first-all

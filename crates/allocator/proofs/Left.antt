@@ -6,7 +6,7 @@ use mathlib.Core.List.{List}
 use lib.ListN.{length}
 use Rattle.model.specs.declared.Record.{Record}
 use Rattle.model.specs.declared.Answer.the-variants as Says
-use Rattle.model.specs.Words.{State, lent}
+use Rattle.model.specs.Words.{State, stateOf}
 use Rattle.model.specs.Headers.{Layout}
 use Rattle.model.specs.Soundness.{sound}
 use Rattle.model.specs.Collection.{collected}
@@ -19,8 +19,8 @@ use Rattle.model.proofs.CollectedSound.{new-shape}
 
 -- from its answer and the check before it, which changed nothing
 pub left-is : (Y : Layout) (h₁ h rs : List ℕ) (q : Record) → h₁ ≡ h → (n : ℕ) (s′ : State)
-    → says (Says.Live n) s′ ≡ collection Y (lent h₁ rs q) → s′ ≡ collected Y (lent h rs q)
-left-is Y h₁ h rs q same n s′ e = ap (λ (o : Outcome State). o .left) e ∙ ap (λ (x : List ℕ). collected Y (lent x rs q)) same
+    → says (Says.Live n) s′ ≡ collection Y (stateOf h₁ rs q) → s′ ≡ collected Y (stateOf h rs q)
+left-is Y h₁ h rs q same n s′ e = ap (λ (o : Outcome State). o .left) e ∙ ap (λ (x : List ℕ). collected Y (stateOf x rs q)) same
 
 -- it has its shape, and as many roots
 module _ (Y : Layout) (s : State) (e : sound Y s ≡ true) (s′ : State) (l : s′ ≡ collected Y s) where

@@ -5,10 +5,11 @@ ghost use Prim.Native.Nat.{_≤_, _<_};
 ghost use lib.ListN.{length};
 ghost use Rattle.model.specs.declared.Answer.the-variants as Says;
 ghost use Rattle.model.specs.Limits.{maxFields};
-ghost use Rattle.model.specs.Words.{lent};
+ghost use Rattle.model.specs.Words.{stateOf};
 ghost use Rattle.model.specs.Headers as Layouts;
 ghost use Rattle.model.specs.Soundness.{sound};
-ghost use Rattle.model.specs.Answers.{says, outcome};
+ghost use Rattle.model.specs.Answers.{says};
+ghost use Rattle.model.specs.Contracts.{lent, leaves, outcome};
 ghost use Rattle.model.specs.Calls as Calls;
 ghost use Rattle.allocator.specs.Retrying.{collection, retried};
 use engine::Collected;
@@ -17,12 +18,15 @@ use model::Answered;
 use model::Kind;
 use model::Record;
 use model::Refusal;
+use model::say;
 
-// Collects a sound heap. The first `count` roots count as live: all of them, also the one that an allocation is for.
+// Collects a sound heap. The first `count` roots count as live: all of them, also the one that an allocation
+// is for.
 fn collect_among(heap: &mut [u32], roots: &mut [u32], count: usize, record: Record) -> Collected
-    requires { ⌜ (count ≡ length (now roots)) × (sound Layouts.tuple (lent (now heap) (now roots) «record») ≡ true) ⌝ }
-    ensures { λ r. ⌜ says (Says.Live (r .live)) (lent (now (heap .exit)) (now (roots .exit)) (r .«record»))
-        ≡ collection Layouts.tuple (lent (now (heap .entry)) (now (roots .entry)) «record») ⌝ }
+    requires { ⌜ (count ≡ length (now roots))
+        × (sound Layouts.tuple (stateOf (now heap) (now roots) «record») ≡ true) ⌝ }
+    ensures { λ r. ⌜ says (Says.Live (r .live)) (leaves heap roots (r .«record»))
+        ≡ collection Layouts.tuple (lent heap roots «record») ⌝ }
 {
     engine::collect_sound(heap, &mut roots[..count], record)
 }
@@ -37,7 +41,8 @@ fn retry(
     to: usize,
 ) -> Answered
     requires { ⌜ (fields ≤ maxFields) × (to < length (now roots)) ⌝ }
-    ensures { λ r. ⌜ outcome r (now (heap .exit)) (now (roots .exit)) ≡ retried Layouts.tuple kind fields to (lent (now (heap .entry)) (now (roots .entry)) «record») ⌝ }
+    ensures { λ r. ⌜ outcome r heap roots
+        ≡ retried Layouts.tuple kind fields to (lent heap roots «record») ⌝ }
 {
     if checker::is_sound(heap, roots, record) {
         let all = roots.len();
@@ -45,24 +50,16 @@ fn retry(
         let after = done.record;
         if fields < placing::spare_of(heap.len(), after) {
             let placed = placing::place(heap, roots, after, kind, fields, to);
-            return Answered {
-                answer: Answer::Done,
-                record: placed,
-            };
+            return say(Answer::Done, placed);
         }
-        return Answered {
-            answer: Answer::Refused(Refusal::Room),
-            record: after,
-        };
+        return say(Answer::Refused(Refusal::Room), after);
     }
-    Answered {
-        answer: Answer::Refused(Refusal::Damaged),
-        record,
-    }
+    say(Answer::Refused(Refusal::Damaged), record)
 }
 
-// Root `to` gets a new object, its fields null or raw zeros: done, or SHAPE, ROOT, COUNT, DAMAGED or ROOM. If there is
-// room, nothing moves and only the new object's words and that root are touched; if not, every object may move.
+// Root `to` gets a new object, its fields null or raw zeros: done, or SHAPE, ROOT, COUNT, DAMAGED or ROOM. If
+// there is room, nothing moves and only the new object's words and that root are touched; if not, every
+// object may move.
 pub fn allocate(
     heap: &mut [u32],
     roots: &mut [u32],
@@ -71,32 +68,21 @@ pub fn allocate(
     fields: usize,
     to: usize,
 ) -> Answered
-    ensures { λ r. ⌜ outcome r (now (heap .exit)) (now (roots .exit)) ≡ Calls.allocate Layouts.tuple kind fields to (lent (now (heap .entry)) (now (roots .entry)) «record») ⌝ }
+    ensures { λ r. ⌜ outcome r heap roots
+        ≡ Calls.allocate Layouts.tuple kind fields to (lent heap roots «record») ⌝ }
 {
     if words::shape::bad_shape(heap.len(), roots.len(), record) {
-        return Answered {
-            answer: Answer::Refused(Refusal::Shape),
-            record,
-        };
+        return say(Answer::Refused(Refusal::Shape), record);
     }
     if roots.len() <= to {
-        return Answered {
-            answer: Answer::Refused(Refusal::Root),
-            record,
-        };
+        return say(Answer::Refused(Refusal::Root), record);
     }
     if words::shape::MAX_FIELDS < fields {
-        return Answered {
-            answer: Answer::Refused(Refusal::Count),
-            record,
-        };
+        return say(Answer::Refused(Refusal::Count), record);
     }
     if fields < placing::spare_of(heap.len(), record) {
         let placed = placing::place(heap, roots, record, kind, fields, to);
-        return Answered {
-            answer: Answer::Done,
-            record: placed,
-        };
+        return say(Answer::Done, placed);
     }
     retry(heap, roots, record, kind, fields, to)
 }

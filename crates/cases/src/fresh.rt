@@ -6,7 +6,7 @@ use model::Kind;
 fn allocated(title: &[u8], fields: usize) {
     let mut heap = [7u32; 17];
     let mut roots = [0u32; 1];
-    let fresh = access::fresh::fresh(&mut heap, &roots, run::in_b(12));
+    let fresh = blind::fresh(&mut heap, &roots, run::in_b(12));
     run::name(title);
     let call = calls::allocate(Kind::Traced, fields, 0);
     run::one(&mut heap, &mut roots, fresh.record, call);

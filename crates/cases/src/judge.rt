@@ -17,7 +17,8 @@ pub fn unsound(heap: &mut [u32], roots: &mut [u32], record: Record) {
     run::three(heap, roots, record, Call::Check, Call::Collect, never_fits);
 }
 
-// Two objects of one field: at 1 one that names itself, at 3 garbage that holds the integer 0. Word 5 is free.
+// Two objects of one field: at 1 one that names itself, at 3 garbage that holds the integer 0. Word 5 is
+// free.
 pub fn two_objects() -> [u32; 11] {
     [0, 2, 4, 2, 1, 0, 0, 0, 0, 0, 0]
 }

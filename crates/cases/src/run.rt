@@ -51,9 +51,9 @@ fn left(heap: &[u32], roots: &[u32], record: Record) {
     show::text(b"; ");
     show::record(record);
     show::text(b"; heap");
-    show::words(heap);
+    show::run(heap);
     show::text(b"; roots");
-    show::words(roots);
+    show::run(roots);
     show::text(b"\n");
 }
 

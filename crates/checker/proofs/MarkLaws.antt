@@ -21,9 +21,9 @@ use Rattle.model.proofs.Tiling.{tiles-step, headers-tile}
 use Rattle.model.proofs.Walks.{tiles-past}
 use Rattle.runs.specs.Runs.{run}
 use Rattle.runs.proofs.RunLaws.{Outside, Apart}
-use Rattle.marks.specs.declared.Part.{Part}
-use Rattle.marks.specs.Marks.{usedWords, markAt, Marking, markHeaders, isTiledPart, headersOf}
-use Rattle.marks.proofs.Turns.{mark-ended}
+use Rattle.checker_marks.specs.declared.Part.{Part}
+use Rattle.checker_marks.specs.Marks.{usedWords, markAt, Marking, markHeaders, isTiledPart, headersOf}
+use Rattle.checker_marks.proofs.Turns.{mark-ended}
 
 module _ (Y : Layout) (p : Part) where
   -- the used words are the same

@@ -11,17 +11,17 @@ use Rattle.model.specs.declared.Answer.the-variants as Says
 use Rattle.model.specs.declared.Half.{Half}
 use Rattle.model.specs.declared.Record.{Record}
 use Rattle.model.specs.declared.Refusal.the-variants as Why
-use Rattle.model.specs.Answers.{outcome, refuse}
+use Rattle.model.specs.Answers.{says, refuse}
 use Rattle.model.specs.Calls.{check}
 use Rattle.model.specs.Headers.{Layout}
 use Rattle.model.specs.Shape.{badShape}
 use Rattle.model.specs.Soundness.{all, allZero, sound}
 use Rattle.model.specs.Values.{isNull}
-use Rattle.model.specs.Words.{lent, at, halfWords, other, firstOf}
+use Rattle.model.specs.Words.{stateOf, at, halfWords, other, firstOf}
 use Rattle.runs.specs.Runs.{run, cleared}
 use Rattle.runs.proofs.RunLaws.{Apart}
-use Rattle.marks.specs.declared.Part.{Part}
-use Rattle.marks.specs.Marks.{Fits, Halves, part, usedWords, partOf, Marking, marking, marked, isZeroAround, isValueByMarks, fieldsAreValuesByMarks, isTiledPart, headersOf, allAreValuesByMarks, usedPartSound}
+use Rattle.checker_marks.specs.declared.Part.{Part}
+use Rattle.checker_marks.specs.Marks.{Fits, Halves, part, usedWords, partOf, Marking, marking, marked, isZeroAround, isValueByMarks, fieldsAreValuesByMarks, isTiledPart, headersOf, allAreValuesByMarks, usedPartSound}
 use Rattle.checker.proofs.SoundByMarks.{lengths, stop-is, marked-tiled, halves, fits, apart, sound-dirty, sound-clean, heap-restored}
 
 -- ---- the part of a record
@@ -98,45 +98,43 @@ module _ (Y : Layout) (H : List ℕ) (p : Part) (H′ : List ℕ) (stop : ℕ) (
 
 -- ---- a state, and the part that the code took of it
 module _ (Y : Layout) (H roots : List ℕ) (q : Record) where
-  pub unsound-shape : badShape (lent H roots q) ≡ true → false ≡ sound Y (lent H roots q)
+  pub unsound-shape : badShape (stateOf H roots q) ≡ true → false ≡ sound Y (stateOf H roots q)
   unfolding sound
   unsound-shape b = rw b
 
-  module _ (fair : badShape (lent H roots q) ≡ false) (p : Part) (is : p ≡ partOf (halfWords H) q) where
+  module _ (fair : badShape (stateOf H roots q) ≡ false) (p : Part) (is : p ≡ partOf (halfWords H) q) where
     pub part-halves : Halves H p (halfWords H)
-    part-halves = subst (λ (p : Part). Halves H p (halfWords H)) (sym is) (halves Y (lent H roots q) fair)
+    part-halves = subst (λ (p : Part). Halves H p (halfWords H)) (sym is) (halves Y (stateOf H roots q) fair)
 
     pub part-fits : Fits H p × Apart (p .first .0) (p .marks .0) (usedWords p)
     part-fits =
         subst (λ (p : Part). Fits H p × Apart (p .first .0) (p .marks .0) (usedWords p)) (sym is)
-        (fits Y (lent H roots q) fair, apart Y (lent H roots q) fair)
+        (fits Y (stateOf H roots q) fair, apart Y (stateOf H roots q) fair)
 
-    pub unsound-around : false ≡ isZeroAround H p (halfWords H) → false ≡ sound Y (lent H roots q)
-    unsound-around d = sym (sound-dirty Y (lent H roots q) fair (sym (d ∙ ap (λ (p : Part). isZeroAround H p (halfWords H)) is)))
+    pub unsound-around : false ≡ isZeroAround H p (halfWords H) → false ≡ sound Y (stateOf H roots q)
+    unsound-around d = sym (sound-dirty Y (stateOf H roots q) fair (sym (d ∙ ap (λ (p : Part). isZeroAround H p (halfWords H)) is)))
 
     pub sound-used : true ≡ isZeroAround H p (halfWords H) → (r : Bool) (H′ : List ℕ)
         → r ≡ usedPartSound Y H roots p → H′ ≡ cleared (marked Y H p .heap) (p .marks .0) (usedWords p)
-        → (r ≡ sound Y (lent H roots q)) × (H′ ≡ H)
+        → (r ≡ sound Y (stateOf H roots q)) × (H′ ≡ H)
     sound-used d r H′ a b =
         let c : isZeroAround H (partOf (halfWords H) q) (halfWords H) ≡ true =
         sym (d ∙ ap (λ (p : Part). isZeroAround H p (halfWords H)) is) in (
-          a ∙ ap (λ (p : Part). usedPartSound Y H roots p) is ∙ sym (sound-clean Y (lent H roots q) fair c),
-          b ∙ ap (λ (p : Part). cleared (marked Y H p .heap) (p .marks .0) (usedWords p)) is ∙ heap-restored Y (lent H roots q) fair c,
+          a ∙ ap (λ (p : Part). usedPartSound Y H roots p) is ∙ sym (sound-clean Y (stateOf H roots q) fair c),
+          b ∙ ap (λ (p : Part). cleared (marked Y H p .heap) (p .marks .0) (usedWords p)) is ∙ heap-restored Y (stateOf H roots q) fair c,
         )
 
   -- ---- the call check
-  pub check-refused : badShape (lent H roots q) ≡ true
-      → outcome (record { answer = Says.Refused Why.Shape; «record» = q }) H roots ≡ check Y (lent H roots q)
+  pub check-refused : badShape (stateOf H roots q) ≡ true
+      → says (Says.Refused Why.Shape) (stateOf H roots q) ≡ check Y (stateOf H roots q)
   unfolding check refuse
   check-refused b = rw b
 
-  module _ (fair : badShape (lent H roots q) ≡ false) (H′ : List ℕ) (same : H′ ≡ H) where
-    pub check-sound : true ≡ sound Y (lent H roots q) → outcome (record { answer = Says.Sound; «record» = q }) H′ roots
-        ≡ check Y (lent H roots q)
+  module _ (fair : badShape (stateOf H roots q) ≡ false) (H′ : List ℕ) (same : H′ ≡ H) where
+    pub check-sound : true ≡ sound Y (stateOf H roots q) → says Says.Sound (stateOf H′ roots q) ≡ check Y (stateOf H roots q)
     unfolding check refuse
     check-sound e = rw (same, fair, ← e)
 
-    pub check-unsound : false ≡ sound Y (lent H roots q)
-        → outcome (record { answer = Says.Unsound; «record» = q }) H′ roots ≡ check Y (lent H roots q)
+    pub check-unsound : false ≡ sound Y (stateOf H roots q) → says Says.Unsound (stateOf H′ roots q) ≡ check Y (stateOf H roots q)
     unfolding check refuse
     check-unsound e = rw (same, fair, ← e)

@@ -25,8 +25,8 @@ use Rattle.model.proofs.Tests.{by-test, decide, and-both}
 use Rattle.model.proofs.Tiling.{headers-tile}
 use Rattle.runs.specs.Runs.{cleared}
 use Rattle.runs.proofs.RunLaws.{Apart, cleared-length, cleared-inside, cleared-outside}
-use Rattle.marks.specs.declared.Part.{Part}
-use Rattle.marks.specs.Marks.{Fits, Halves, usedWords, partOf, markAt, marked, isZeroAround, isValueByMarks, fieldsAreValuesByMarks, isTiledPart, headersOf, allAreValuesByMarks, usedPartSound}
+use Rattle.checker_marks.specs.declared.Part.{Part}
+use Rattle.checker_marks.specs.Marks.{Fits, Halves, usedWords, partOf, markAt, marked, isZeroAround, isValueByMarks, fieldsAreValuesByMarks, isTiledPart, headersOf, allAreValuesByMarks, usedPartSound}
 use Rattle.checker.proofs.MarkLaws.{Agree, NoMark, mark-length, mark-outside, mark-agree, mark-stop, mark-marks, tiles-agree, fields-agree}
 
 -- two tests that are the same on a list's elements

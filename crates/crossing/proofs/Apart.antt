@@ -20,7 +20,7 @@ use Rattle.model.specs.Sessions.{step}
 use Rattle.model.proofs.PlainAnswers.{no-zero}
 use Rattle.model.proofs.Telling.{heard, numbers-apart, read-back, fresh-back, number-back, apart-by-two, told-apart}
 use Rattle.crossing.specs.declared.CWindow.{CWindow}
-use Rattle.crossing.specs.Numbers.{windowNumbers, wordAt}
+use Rattle.crossing.specs.Numbers.{windowOf, wordAt}
 use Rattle.crossing.specs.Laws as Law
 
 collect-inspect : (r : ℕ) → Ask.Collect ≡ Ask.Inspect r → ⊥
@@ -35,7 +35,7 @@ read-inspect r e = let z : _≡_ {A = ℕ} 0 1 = cc in omega arith
 told-same : (t t′ : Told) → t .refusal ≡ t′ .refusal → t .holds ≡ t′ .holds → t .integer ≡ t′ .integer → t .value ≡ t′ .value → t ≡ t′
 told-same t t′ a b c d = λ i. record { refusal = a i; holds = b i; integer = c i; value = d i }
 
-window-apart : (p p′ : Place) → windowNumbers p ≡ windowNumbers p′ → p ≡ p′
+window-apart : (p p′ : Place) → windowOf p ≡ windowOf p′ → p ≡ p′
 window-apart (Place.Object i n) (Place.Object j m) e =
     let a : i .0 + 1 ≡ j .0 + 1 = ap (λ w. w .first) e in
     let b : i .0 ≡ j .0 = omega arith in

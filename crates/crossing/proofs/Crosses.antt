@@ -11,45 +11,45 @@ use Rattle.model.specs.declared.Call.{Call}
 use Rattle.model.specs.declared.Answered.{Answered}
 use Rattle.model.specs.declared.Told.{Told}
 use Rattle.model.specs.declared.Place.{Place}
-use Rattle.model.specs.Words.{State, lent, free}
+use Rattle.model.specs.Words.{State, stateOf, free}
 use Rattle.model.specs.Headers.{tuple}
 use Rattle.model.specs.Shape.{badLength}
-use Rattle.model.specs.Answers.{Outcome, outcome, told, refuse}
+use Rattle.model.specs.Answers.{Outcome, outcomeOf, told, refuse}
 use Rattle.model.specs.Calls.{fresh}
 use Rattle.model.specs.Window.{window}
 use Rattle.model.specs.Sessions.{step}
 use Rattle.crossing.specs.declared.CRecord.{CRecord}
 use Rattle.crossing.specs.declared.CResult.{CResult}
 use Rattle.crossing.specs.declared.CWindow.{CWindow}
-use Rattle.crossing.specs.Numbers.{Given, given, called, begun, result, noHalf, windowNumbers, opened}
+use Rattle.crossing.specs.Numbers.{Given, givenOf, calledOf, begun, resultOf, noHalf, windowOf, opened}
 use Rattle.crossing.specs.Crossing.{nowhere, taken, back, freshBack, Narrow, NarrowPlace}
 use Rattle.crossing.proofs.ShapeFirst.{nowhere-bad, shape-first, window-shape}
 use Rattle.crossing.proofs.FreeIndexes.{step-narrow, window-narrow}
 
 -- the call that was made, of the record that was taken
 made : {H′ R′ : List ℕ} {q : Record} {o : Answered} (H R : List ℕ) (c : CRecord) (k : Call)
-    → q ≡ taken c → outcome o H′ R′ ≡ step tuple k (lent H R q)
-    → outcome o H′ R′ ≡ step tuple k (lent H R (taken c))
-made H R c k e f = f ∙ ap (λ q. step tuple k (lent H R q)) e
+    → q ≡ taken c → outcomeOf o H′ R′ ≡ step tuple k (stateOf H R q)
+    → outcomeOf o H′ R′ ≡ step tuple k (stateOf H R (taken c))
+made H R c k e f = f ∙ ap (λ q. step tuple k (stateOf H R q)) e
 
 module _ {T : Type 0} (returns : Told → CRecord → T) (c : CRecord) where
   -- an outcome on its way back
   abbrev sent : Outcome State → Given T
-  sent o = given (returns (told (o .answer)) (back c (o .left .«record»))) (o .left .heap) (o .left .roots)
+  sent o = givenOf (returns (told (o .answer)) (back c (o .left .«record»))) (o .left .heap) (o .left .roots)
 
   lands : (k : Call) (H R : List ℕ) (b : Bool) → noHalf c ≡ b
-      → sent (step tuple k (lent H R (taken c))) ≡ called returns (step tuple k) H R c
-  unfolding called
+      → sent (step tuple k (stateOf H R (taken c))) ≡ calledOf returns (step tuple k) H R c
+  unfolding calledOf
   lands k H R true e =
       rw e
-      (ap (λ (o : Outcome State). given (returns (told (o .answer)) c) (o .left .heap) (o .left .roots))
-      (shape-first tuple (lent H R nowhere) (nowhere-bad H R) k))
+      (ap (λ (o : Outcome State). givenOf (returns (told (o .answer)) c) (o .left .heap) (o .left .roots))
+      (shape-first tuple (stateOf H R nowhere) (nowhere-bad H R) k))
   lands k H R false e = rw e
 
   pub crosses : {H′ R′ : List ℕ} {q : Record} {o : Answered} {r : T} (H R : List ℕ) (k : Call)
-      → q ≡ taken c → outcome o H′ R′ ≡ step tuple k (lent H R q)
-      → r ≡ returns (told (o .answer)) (back c (o .«record»)) → given r H′ R′ ≡ called returns (step tuple k) H R c
-  crosses {H′} {R′} H R k e f g = ap (λ x. given x H′ R′) g ∙ ap sent (made H R c k e f) ∙ lands k H R (noHalf c) refl
+      → q ≡ taken c → outcomeOf o H′ R′ ≡ step tuple k (stateOf H R q)
+      → r ≡ returns (told (o .answer)) (back c (o .«record»)) → givenOf r H′ R′ ≡ calledOf returns (step tuple k) H R c
+  crosses {H′} {R′} H R k e f g = ap (λ x. givenOf x H′ R′) g ∙ ap sent (made H R c k e f) ∙ lands k H R (noHalf c) refl
 
 -- the bounds by which the record goes back
 taken-narrow : {q : Record} (c : CRecord) → q ≡ taken c → Narrow (c .free) → Narrow (q .free .0)
@@ -60,47 +60,47 @@ taken-narrow c e n = subst (λ q. Narrow (q .free .0)) (sym e) (go (noHalf c) re
     go false e = rw e n
 
 pub narrow : {H′ R′ : List ℕ} {q : Record} {o : Answered} (c : CRecord) (H R : List ℕ) (k : Call)
-    → q ≡ taken c → outcome o H′ R′ ≡ step tuple k (lent H R q)
+    → q ≡ taken c → outcomeOf o H′ R′ ≡ step tuple k (stateOf H R q)
     → Narrow (c .free) → Narrow (o .«record» .free .0)
 narrow c H R k e f n = subst (λ (o : Outcome State). Narrow (free (o .left))) (sym f)
-    (step-narrow tuple (lent H R _) (taken-narrow c e n) k)
+    (step-narrow tuple (stateOf H R _) (taken-narrow c e n) k)
 
 -- fresh: it does not look at the record that it is given
 pub fresh-crosses : {H′ : List ℕ} {o : Answered} {r : CResult} (H : List ℕ) (q : Record) (c : CRecord)
-    → outcome o H′ [] ≡ fresh (lent H [] q)
-    → r ≡ result (told (o .answer)) (freshBack (told (o .answer)) c (o .«record»)) → given r H′ [] ≡ begun H c
+    → outcomeOf o H′ [] ≡ fresh (stateOf H [] q)
+    → r ≡ resultOf (told (o .answer)) (freshBack (told (o .answer)) c (o .«record»)) → givenOf r H′ [] ≡ begun H c
 unfolding fresh refuse begun
 fresh-crosses {H′} H q c f e =
-    ap (λ x. given x H′ []) e
+    ap (λ x. givenOf x H′ []) e
     ∙ ap sent-back f
     ∙ go (badLength (length H)) refl
   where
     sent-back : Outcome State → Given CResult
-    sent-back o = given (result (told (o .answer)) (freshBack (told (o .answer)) c (o .left .«record»))) (o .left .heap) (o .left .roots)
+    sent-back o = givenOf (resultOf (told (o .answer)) (freshBack (told (o .answer)) c (o .left .«record»))) (o .left .heap) (o .left .roots)
 
-    go : (b : Bool) → badLength (length H) ≡ b → sent-back (fresh (lent H [] q)) ≡ begun H c
+    go : (b : Bool) → badLength (length H) ≡ b → sent-back (fresh (stateOf H [] q)) ≡ begun H c
     go true e = rw e
     go false e = rw e
 
 pub fresh-narrow : {H′ : List ℕ} {o : Answered} (H : List ℕ) (q : Record) (c : CRecord)
-    → q ≡ taken c → outcome o H′ [] ≡ fresh (lent H [] q)
+    → q ≡ taken c → outcomeOf o H′ [] ≡ fresh (stateOf H [] q)
     → Narrow (c .free) → Narrow (o .«record» .free .0)
 unfolding fresh refuse
 fresh-narrow H q c e f n = subst (λ (o : Outcome State). Narrow (free (o .left))) (sym f) (go (badLength (length H)) refl)
   where
-    go : (b : Bool) → badLength (length H) ≡ b → Narrow (free (fresh (lent H [] q) .left))
+    go : (b : Bool) → badLength (length H) ≡ b → Narrow (free (fresh (stateOf H [] q) .left))
     go true g = rw g (taken-narrow c e n)
     go false g = rw g (omega arith)
 
 -- the window
 pub window-crosses : {q : Record} {p : Place} {w : CWindow} (c : CRecord) (H R : List ℕ) (r : ℕ)
-    → q ≡ taken c → p ≡ window tuple r (lent H R q)
-    → w ≡ windowNumbers p → w ≡ opened (window tuple r) H R c
+    → q ≡ taken c → p ≡ window tuple r (stateOf H R q)
+    → w ≡ windowOf p → w ≡ opened (window tuple r) H R c
 unfolding opened
-window-crosses c H R r e f g = g ∙ ap windowNumbers (f ∙ ap (λ q. window tuple r (lent H R q)) e) ∙ go (noHalf c) refl
+window-crosses c H R r e f g = g ∙ ap windowOf (f ∙ ap (λ q. window tuple r (stateOf H R q)) e) ∙ go (noHalf c) refl
   where
-    go : (b : Bool) → noHalf c ≡ b → windowNumbers (window tuple r (lent H R (taken c))) ≡ opened (window tuple r) H R c
-    go true e = rw e (ap windowNumbers (window-shape tuple (lent H R nowhere) (nowhere-bad H R) r))
+    go : (b : Bool) → noHalf c ≡ b → windowOf (window tuple r (stateOf H R (taken c))) ≡ opened (window tuple r) H R c
+    go true e = rw e (ap windowOf (window-shape tuple (stateOf H R nowhere) (nowhere-bad H R) r))
     go false e = rw e
 
 pub place-narrow : {p : Place} (r : ℕ) (s : State) → p ≡ window tuple r s → NarrowPlace p

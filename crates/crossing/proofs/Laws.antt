@@ -14,12 +14,12 @@ use Rattle.model.specs.declared.Place.the-variants as Place
 use Rattle.model.proofs.Tests.{by-test, same?}
 use Rattle.model.proofs.Laws.{word-from-count, word-past-end, word-itself, word-hidden}
 use Rattle.crossing.specs.declared.CRecord.{CRecord}
-use Rattle.crossing.specs.Numbers.{Given, given, noHalf, numbersOf, recordOf, wordAt}
+use Rattle.crossing.specs.Numbers.{Given, givenOf, noHalf, numbersOf, recordOf, wordAt}
 use Rattle.crossing.specs.Laws as Law
 
 pub settles : Law.Settles
 settles T g a b H H′ R R′ e f =
-    let x : given a H R ≡ given b H′ R′ = e ∙ sym f in
+    let x : givenOf a H R ≡ givenOf b H′ R′ = e ∙ sym f in
     (ap (λ (z : Given T). z .returned) x, ap (λ (z : Given T). z .heap) x, ap (λ (z : Given T). z .roots) x)
 
 record-half : (h : Half) (i : Index) → noHalf (numbersOf (record { half = h; free = i })) ≡ false

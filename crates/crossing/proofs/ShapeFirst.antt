@@ -12,7 +12,7 @@ use Rattle.model.specs.declared.Call.{Call}
 use Rattle.model.specs.declared.Call.the-variants as Ask
 use Rattle.model.specs.declared.Place.the-variants as Place
 use Rattle.model.specs.Limits.{maxRoots}
-use Rattle.model.specs.Words.{State, lent, halfWords}
+use Rattle.model.specs.Words.{State, stateOf, halfWords}
 use Rattle.model.specs.Headers.{Layout}
 use Rattle.model.specs.Shape.{badLength, badShapeOf, badShape}
 use Rattle.model.specs.Answers.{Outcome, says, refuse}
@@ -22,7 +22,7 @@ use Rattle.model.specs.Sessions.{step}
 use Rattle.model.proofs.Tests.{or-left, or-right}
 use Rattle.crossing.specs.Crossing.{nowhere}
 
-pub nowhere-bad : (H R : List ℕ) → badShape (lent H R nowhere) ≡ true
+pub nowhere-bad : (H R : List ℕ) → badShape (stateOf H R nowhere) ≡ true
 unfolding badShapeOf
 nowhere-bad H R =
     let S = halfWords H in

@@ -15,11 +15,11 @@ use Rattle.model.specs.Window.{windowWord}
 use Rattle.model.specs.Sessions.{step}
 use Rattle.crossing.specs.declared.CRecord.{CRecord}
 use Rattle.crossing.specs.declared.CWindow.{CWindow}
-use Rattle.crossing.specs.Numbers.{Given, given, noHalf, numbersOf, recordOf, result, collected, answer, seen, windowNumbers, wordAt}
+use Rattle.crossing.specs.Numbers.{Given, givenOf, noHalf, numbersOf, recordOf, resultOf, collectedOf, answerOf, seenOf, windowOf, wordAt}
 
 -- a promise is an equation `given .. ≡ g`: any two outcomes that it allows are equal
 abbrev pub Settles : Type 1
-Settles = (T : Type 0) (g : Given T) (a b : T) (H H′ R R′ : List ℕ) → given a H R ≡ g → given b H′ R′ ≡ g → (a ≡ b) × (H ≡ H′) × (R ≡ R′)
+Settles = (T : Type 0) (g : Given T) (a b : T) (H H′ R R′ : List ℕ) → givenOf a H R ≡ g → givenOf b H′ R′ ≡ g → (a ≡ b) × (H ≡ H′) × (R ≡ R′)
 
 -- the record that a call returned is the one that the next call is made with, and the other way round
 pub record RecordLaw : Type 0 where
@@ -29,24 +29,24 @@ pub record RecordLaw : Type 0 where
 
 -- the word that C gets by a window's numbers is the one that the model's window shows: on any words, at any place
 abbrev pub WordLaw : Type 0
-WordLaw = (H : List ℕ) (p : Place) (f : ℕ) → wordAt H (windowNumbers p) f ≡ windowWord H p f
+WordLaw = (H : List ℕ) (p : Place) (f : ℕ) → wordAt H (windowOf p) f ≡ windowWord H p f
 
 -- answers can be told apart in what C gets: two answers of one call that are returned alike are equal, whatever the records.
 -- Inspect has a struct of its own; of the others refusal and value are enough.
 pub record AnswersApart (Y : Layout) : Type 0 where
   pub inResult : (c : Call) (s s′ : State) (q q′ : CRecord) → ((r : ℕ) → c ≡ Ask.Inspect r → ⊥)
-      → result (told (step Y c s .answer)) q ≡ result (told (step Y c s′ .answer)) q′ → step Y c s .answer ≡ step Y c s′ .answer
+      → resultOf (told (step Y c s .answer)) q ≡ resultOf (told (step Y c s′ .answer)) q′ → step Y c s .answer ≡ step Y c s′ .answer
   pub inAnswer : (c : Call) (s s′ : State) → ((r : ℕ) → c ≡ Ask.Inspect r → ⊥)
-      → answer (told (step Y c s .answer)) ≡ answer (told (step Y c s′ .answer)) → step Y c s .answer ≡ step Y c s′ .answer
+      → answerOf (told (step Y c s .answer)) ≡ answerOf (told (step Y c s′ .answer)) → step Y c s .answer ≡ step Y c s′ .answer
   pub inCollected : (s s′ : State) (q q′ : CRecord)
-      → collected (told (step Y Ask.Collect s .answer)) q ≡ collected (told (step Y Ask.Collect s′ .answer)) q′
+      → collectedOf (told (step Y Ask.Collect s .answer)) q ≡ collectedOf (told (step Y Ask.Collect s′ .answer)) q′
       → step Y Ask.Collect s .answer ≡ step Y Ask.Collect s′ .answer
   pub inSeen : (r : ℕ) (s s′ : State)
-      → seen (told (step Y (Ask.Inspect r) s .answer)) ≡ seen (told (step Y (Ask.Inspect r) s′ .answer))
+      → seenOf (told (step Y (Ask.Inspect r) s .answer)) ≡ seenOf (told (step Y (Ask.Inspect r) s′ .answer))
       → step Y (Ask.Inspect r) s .answer ≡ step Y (Ask.Inspect r) s′ .answer
-  pub inFresh : (s s′ : State) (q q′ : CRecord) → result (told (fresh s .answer)) q ≡ result (told (fresh s′ .answer)) q′
+  pub inFresh : (s s′ : State) (q q′ : CRecord) → resultOf (told (fresh s .answer)) q ≡ resultOf (told (fresh s′ .answer)) q′
       → fresh s .answer ≡ fresh s′ .answer
-  pub inWord : (H H′ : List ℕ) (w w′ : CWindow) (f f′ : ℕ) → answer (told (wordAt H w f)) ≡ answer (told (wordAt H′ w′ f′))
+  pub inWord : (H H′ : List ℕ) (w w′ : CWindow) (f f′ : ℕ) → answerOf (told (wordAt H w f)) ≡ answerOf (told (wordAt H′ w′ f′))
       → wordAt H w f ≡ wordAt H′ w′ f′
   -- and so can the places of windows
-  pub inWindow : (p p′ : Place) → windowNumbers p ≡ windowNumbers p′ → p ≡ p′
+  pub inWindow : (p p′ : Place) → windowOf p ≡ windowOf p′ → p ≡ p′

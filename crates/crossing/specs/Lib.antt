@@ -1,3 +1,4 @@
 pub mod Numbers
+pub mod Exports
 pub mod Crossing
 pub mod Laws

@@ -14,7 +14,7 @@ use Rattle.model.specs.declared.Answer.the-variants as Says
 use Rattle.model.specs.declared.Place.{Place}
 use Rattle.model.specs.declared.Place.the-variants as Place
 use Rattle.model.specs.declared.Told.{Told}
-use Rattle.model.specs.Words.{State, lent, at}
+use Rattle.model.specs.Words.{State, stateOf, at}
 use Rattle.model.specs.Shape.{badLength}
 use Rattle.model.specs.Answers.{Outcome, number, told}
 use Rattle.model.specs.Calls.{fresh}
@@ -47,18 +47,18 @@ recordOf c = record { half = cond (eqb (c .half) 0) A B; free = record { 0 = c .
 
 -- ---- what each call returns, of an answer and a record in numbers. A number that an answer does not have is 0.
 
-abbrev pub result : Told → CRecord → CResult
-result t c = record { refusal = t .refusal; value = t .value; «record» = c }
+abbrev pub resultOf : Told → CRecord → CResult
+resultOf t c = record { refusal = t .refusal; value = t .value; «record» = c }
 
-abbrev pub collected : Told → CRecord → CCollected
-collected t c = record { refusal = t .refusal; live = t .value; «record» = c }
+abbrev pub collectedOf : Told → CRecord → CCollected
+collectedOf t c = record { refusal = t .refusal; live = t .value; «record» = c }
 
 -- no record, where the call changes nothing
-abbrev pub answer : Told → CAnswer
-answer t = record { refusal = t .refusal; value = t .value }
+abbrev pub answerOf : Told → CAnswer
+answerOf t = record { refusal = t .refusal; value = t .value }
 
-abbrev pub seen : Told → CSeen
-seen t = record { refusal = t .refusal; kind = t .holds; integer = t .integer; count = t .value }
+abbrev pub seenOf : Told → CSeen
+seenOf t = record { refusal = t .refusal; kind = t .holds; integer = t .integer; count = t .value }
 
 -- ---- the calls
 
@@ -68,34 +68,34 @@ pub record Given (T : Type 0) : Type 0 where
   pub heap : List ℕ
   pub roots : List ℕ
 
-abbrev pub given : {T : Type 0} → T → List ℕ → List ℕ → Given T
-given r H R = record { returned = r; heap = H; roots = R }
+abbrev pub givenOf : {T : Type 0} → T → List ℕ → List ℕ → Given T
+givenOf r H R = record { returned = r; heap = H; roots = R }
 
 module _ {T : Type 0} (returns : Told → CRecord → T) where
   -- an outcome in numbers
   abbrev pub inNumbers : Outcome State → Given T
-  inNumbers o = given (returns (told (o .answer)) (numbersOf (o .left .«record»))) (o .left .heap) (o .left .roots)
+  inNumbers o = givenOf (returns (told (o .answer)) (numbersOf (o .left .«record»))) (o .left .heap) (o .left .roots)
 
   -- SHAPE: nothing changes, and the record is handed back as it came
   abbrev pub shapeRefused : List ℕ → List ℕ → CRecord → Given T
-  shapeRefused H R c = given (returns (told (Says.Refused Why.Shape)) c) H R
+  shapeRefused H R c = givenOf (returns (told (Says.Refused Why.Shape)) c) H R
 
   -- a call of the model, given numbers: a half that is none is SHAPE
-  unfoldable pub called : (State → Outcome State) → List ℕ → List ℕ → CRecord → Given T
-  called f H R c = cond (noHalf c) (shapeRefused H R c) (inNumbers (f (lent H R (recordOf c))))
+  unfoldable pub calledOf : (State → Outcome State) → List ℕ → List ℕ → CRecord → Given T
+  calledOf f H R c = cond (noHalf c) (shapeRefused H R c) (inNumbers (f (stateOf H R (recordOf c))))
 
 -- fresh looks at no number of the record: its SHAPE is that of the heap's length alone, and it has no roots
 unfoldable pub begun : List ℕ → CRecord → Given CResult
-begun H c = cond (badLength (length H)) (shapeRefused result H [] c) (inNumbers result (fresh (lent H [] (recordOf c))))
+begun H c = cond (badLength (length H)) (shapeRefused resultOf H [] c) (inNumbers resultOf (fresh (stateOf H [] (recordOf c))))
 
 -- ---- the window: the index of the first field's word, and how many there are
 
-abbrev pub windowNumbers : Place → CWindow
-windowNumbers (Place.Object i n) = record { refusal = 0; first = i .0 + 1; count = n }
-windowNumbers (Place.Refused k) = record { refusal = number k; first = 0; count = 0 }
+abbrev pub windowOf : Place → CWindow
+windowOf (Place.Object i n) = record { refusal = 0; first = i .0 + 1; count = n }
+windowOf (Place.Refused k) = record { refusal = number k; first = 0; count = 0 }
 
 unfoldable pub opened : (State → Place) → List ℕ → List ℕ → CRecord → CWindow
-opened f H R c = windowNumbers (cond (noHalf c) (Place.Refused Why.Shape) (f (lent H R (recordOf c))))
+opened f H R c = windowOf (cond (noHalf c) (Place.Refused Why.Shape) (f (stateOf H R (recordOf c))))
 
 -- the word at a field number, by the window's numbers alone: FIELD where they name no word of this heap
 unfoldable pub wordAt : List ℕ → CWindow → ℕ → Answer

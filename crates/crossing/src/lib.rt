@@ -1,5 +1,5 @@
-// What C gives and gets, and the steps between that and the library's types. No enum crosses to C, so that each half,
-// kind and refusal is a number there.
+// What C gives and gets, and the steps between that and the library's types. No enum crosses to C, so that
+// each half, kind and refusal is a number there.
 ghost use mathlib.Core.Path.{_≡_};
 ghost use Rattle.model.specs.declared.Answer.the-variants as Says;
 ghost use Rattle.model.specs.Answers.{told};
@@ -104,9 +104,9 @@ fn record_after(came: CRecord, record: Record) -> CRecord
     numbers_of(record)
 }
 
-pub fn result(came: CRecord, done: Answered) -> CResult
+pub fn result_of(came: CRecord, done: Answered) -> CResult
     requires { ⌜ Narrow (done .«record» .free .0) ⌝ }
-    ensures { λ r. ⌜ r ≡ Numbers.result (told (done .answer)) (back came (done .«record»)) ⌝ }
+    ensures { λ r. ⌜ r ≡ Numbers.resultOf (told (done .answer)) (back came (done .«record»)) ⌝ }
 {
     let said = done.answer;
     let told = numbers::told(said);
@@ -121,7 +121,7 @@ pub fn result(came: CRecord, done: Answered) -> CResult
 // Of a call that is done and names no answer.
 pub fn done_with(record: Record) -> CResult
     requires { ⌜ Narrow («record» .free .0) ⌝ }
-    ensures { λ r. ⌜ r ≡ Numbers.result (told Says.Done) (Numbers.numbersOf «record») ⌝ }
+    ensures { λ r. ⌜ r ≡ Numbers.resultOf (told Says.Done) (Numbers.numbersOf «record») ⌝ }
 {
     CResult {
         refusal: 0,
@@ -131,9 +131,10 @@ pub fn done_with(record: Record) -> CResult
 }
 
 // What fresh returns: the record as it came where it refuses, whatever its half, and else the new one.
-pub fn fresh_result(came: CRecord, done: Answered) -> CResult
+pub fn fresh_result_of(came: CRecord, done: Answered) -> CResult
     requires { ⌜ Narrow (done .«record» .free .0) ⌝ }
-    ensures { λ r. ⌜ r ≡ Numbers.result (told (done .answer)) (freshBack (told (done .answer)) came (done .«record»)) ⌝ }
+    ensures { λ r. ⌜ r
+        ≡ Numbers.resultOf (told (done .answer)) (freshBack (told (done .answer)) came (done .«record»)) ⌝ }
 {
     let said = done.answer;
     let told = numbers::told(said);
@@ -149,9 +150,9 @@ pub fn fresh_result(came: CRecord, done: Answered) -> CResult
     }
 }
 
-pub fn collected(came: CRecord, done: Answered) -> CCollected
+pub fn collected_of(came: CRecord, done: Answered) -> CCollected
     requires { ⌜ Narrow (done .«record» .free .0) ⌝ }
-    ensures { λ r. ⌜ r ≡ Numbers.collected (told (done .answer)) (back came (done .«record»)) ⌝ }
+    ensures { λ r. ⌜ r ≡ Numbers.collectedOf (told (done .answer)) (back came (done .«record»)) ⌝ }
 {
     let said = done.answer;
     let told = numbers::told(said);
@@ -163,8 +164,8 @@ pub fn collected(came: CRecord, done: Answered) -> CCollected
     }
 }
 
-pub fn answer(answer: Answer) -> CAnswer
-    ensures { λ r. ⌜ r ≡ Numbers.answer (told answer) ⌝ }
+pub fn answer_of(answer: Answer) -> CAnswer
+    ensures { λ r. ⌜ r ≡ Numbers.answerOf (told answer) ⌝ }
 {
     let told = numbers::told(answer);
     CAnswer {
@@ -173,8 +174,8 @@ pub fn answer(answer: Answer) -> CAnswer
     }
 }
 
-pub fn seen(answer: Answer) -> CSeen
-    ensures { λ r. ⌜ r ≡ Numbers.seen (told answer) ⌝ }
+pub fn seen_of(answer: Answer) -> CSeen
+    ensures { λ r. ⌜ r ≡ Numbers.seenOf (told answer) ⌝ }
 {
     let told = numbers::told(answer);
     CSeen {
@@ -187,7 +188,7 @@ pub fn seen(answer: Answer) -> CSeen
 
 pub fn window_of(place: Place) -> CWindow
     requires { ⌜ NarrowPlace place ⌝ }
-    ensures { λ r. ⌜ r ≡ Numbers.windowNumbers place ⌝ }
+    ensures { λ r. ⌜ r ≡ Numbers.windowOf place ⌝ }
 {
     match place {
         Place::Object(index, count) => CWindow {
@@ -203,17 +204,18 @@ pub fn window_of(place: Place) -> CWindow
     }
 }
 
-// The word at a field number; or FIELD. It goes by the window's numbers, whatever they are, and by nothing else.
+// The word at a field number; or FIELD. It goes by the window's numbers, whatever they are, and by nothing
+// else.
 pub fn word_at(heap: &[u32], window: CWindow, field: usize) -> CAnswer
-    ensures { λ r. ⌜ r ≡ Numbers.answer (told (Numbers.wordAt (now (heap .entry)) window field)) ⌝ }
+    ensures { λ r. ⌜ r ≡ Numbers.answerOf (told (Numbers.wordAt (now (heap .entry)) window field)) ⌝ }
 {
     let count = window.count as usize;
     if count <= field {
-        return answer(Answer::Refused(Refusal::Field));
+        return answer_of(Answer::Refused(Refusal::Field));
     }
     let at = window.first as usize + field;
     if heap.len() <= at {
-        return answer(Answer::Refused(Refusal::Field));
+        return answer_of(Answer::Refused(Refusal::Field));
     }
-    answer(Answer::Number(heap[at]))
+    answer_of(Answer::Number(heap[at]))
 }

@@ -1,8 +1,8 @@
 // Builds P5 of document 01 by calls, collects it, and prints what is left.
-use access::fresh::fresh;
 use allocator::allocate;
+use blind::fresh;
+use blind::set_integer;
 use collector::collect;
-use integers::set_integer::set_integer;
 use model::Answer;
 use model::Half;
 use model::Index;
@@ -10,7 +10,8 @@ use model::Kind;
 use model::Record;
 use objects::store;
 
-// A traced object of `fields` fields in root `to`, with the integer `value` in one of them, by way of root `by`.
+// A traced object of `fields` fields in root `to`, with the integer `value` in one of them, by way of root
+// `by`.
 fn build_one(
     heap: &mut [u32],
     roots: &mut [u32],
@@ -37,7 +38,8 @@ fn build_two(heap: &mut [u32], roots: &mut [u32]) -> Record {
     build_one(heap, roots, one, 1, 2, 1, 0, 10)
 }
 
-// P5: the second object names itself; an object with no fields takes the first one's root, so that nothing names it.
+// P5: the second object names itself; an object with no fields takes the first one's root, so that nothing
+// names it.
 fn build(heap: &mut [u32], roots: &mut [u32]) -> Record {
     let two = build_two(heap, roots);
     let knot = store(heap, roots, two, 1, 0, 1).record;

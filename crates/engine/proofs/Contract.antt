@@ -4,10 +4,11 @@ use native.Mathlib.Omega.{arith}
 use mathlib.Core.Path.{_≡_, sym, ap, _∙_}
 use mathlib.Core.Bool.{true}
 use mathlib.Core.List.{List}
+use lib.ListN.{length}
 use Rattle.model.specs.declared.Half.{Half}
 use Rattle.model.specs.declared.Answer.the-variants as Says
 use Rattle.model.specs.Limits.{maxHalf}
-use Rattle.model.specs.Words.{State, lent, halfWords, other, firstOf, firstWord, otherFirst, free}
+use Rattle.model.specs.Words.{State, stateOf, halfWords, other, firstOf, firstWord, otherFirst, free}
 use Rattle.model.specs.Headers.{Layout, Marks}
 use Rattle.model.specs.Soundness.{sound}
 use Rattle.model.specs.Collection.{live, collected}
@@ -16,6 +17,7 @@ use Rattle.model.proofs.Shape.{Shaped}
 use Rattle.model.proofs.Soundness.{SoundTests, sound-parts}
 use Rattle.model.proofs.Order.{order-fits}
 use Rattle.model.proofs.Collected.{live-is}
+use Rattle.words.proofs.FirstWords.{first-by-length}
 use Rattle.engine.specs.Evacuation.{Emptied, emptied, evacuated, SafeEvacuation}
 use Rattle.engine.proofs.End.{safe, leaves, ended-is, free-is}
 
@@ -26,18 +28,24 @@ module _ (Y : Layout) (K : Marks Y) (s : State) (e : sound Y s ≡ true) where
   pub shape : Shaped s
   shape = v .shape
 
-  module _ (old new : ℕ) (half : Half) (i : half ≡ other (s .«record» .half))
-      (o : old ≡ firstOf (halfWords (s .heap)) (s .«record» .half)) (n : new ≡ firstOf (halfWords (s .heap)) half) where
+  module _ (S old new : ℕ) (half : Half) (h : S ≡ halfWords (s .heap)) (i : half ≡ other (s .«record» .half))
+      (o : old ≡ firstOf S (s .«record» .half)) (n : new ≡ firstOf S half) where
+    old-is : old ≡ firstWord s
+    old-is = first-by-length (length (s .heap)) (s .«record» .half) o h
+
     new-is : new ≡ otherFirst s
-    new-is = n ∙ ap (firstOf (halfWords (s .heap))) i
+    new-is = first-by-length (length (s .heap)) half n h ∙ ap (firstOf (halfWords (s .heap))) i
+
+    pub old-low : old ≤ free s
+    old-low = omega (arith, old-is, v .shape .low)
 
     pub may-evacuate : SafeEvacuation Y (s .heap) (s .roots) old (free s - old) new
-    may-evacuate = rw (o, new-is) (safe Y K s v)
+    may-evacuate = rw (old-is, new-is) (safe Y K s v)
 
     module _ (h′ rs′ : List ℕ) (end : ℕ) (q : emptied h′ rs′ end ≡ evacuated Y (s .heap) (s .roots) old (free s - old) new) where
       there : emptied h′ rs′ end ≡ leaves Y K s v
       there =
-          q ∙ ap (λ (x : ℕ). evacuated Y (s .heap) (s .roots) x (free s - x) new) o
+          q ∙ ap (λ (x : ℕ). evacuated Y (s .heap) (s .roots) x (free s - x) new) old-is
           ∙ ap (evacuated Y (s .heap) (s .roots) (firstWord s) (free s - firstWord s)) new-is
 
       end-is : end ≡ new + live Y s
@@ -49,12 +57,12 @@ module _ (Y : Layout) (K : Marks Y) (s : State) (e : sound Y s ≡ true) where
       pub end-high : end - new ≤ maxHalf
       end-high = omega (arith, end-is, live-is Y s v, order-fits Y s v, v .shape .small)
 
-      pub collect-is : says (Says.Live (end - new)) (lent h′ rs′ (record { half = half; free = record { 0 = end } }))
+      pub collect-is : says (Says.Live (end - new)) (stateOf h′ rs′ (record { half = half; free = record { 0 = end } }))
           ≡ says (Says.Live (live Y s)) (collected Y s)
       collect-is =
-          ap (λ (x : ℕ). says (Says.Live x) (lent h′ rs′ (record { half = half; free = record { 0 = end } }))) (omega (arith, end-is))
+          ap (λ (x : ℕ). says (Says.Live x) (stateOf h′ rs′ (record { half = half; free = record { 0 = end } }))) (omega (arith, end-is))
           ∙ ap (λ (x : State). says (Says.Live (live Y s)) x)
-          (ap (λ (x : Half). lent h′ rs′ (record { half = x; free = record { 0 = end } })) i
+          (ap (λ (x : Half). stateOf h′ rs′ (record { half = x; free = record { 0 = end } })) i
           ∙ ap (λ (u : Emptied).
-          lent (u .heap) (u .roots) (record { half = other (s .«record» .half); free = record { 0 = u .free } })) there
+          stateOf (u .heap) (u .roots) (record { half = other (s .«record» .half); free = record { 0 = u .free } })) there
           ∙ ended-is Y K s v)

@@ -17,7 +17,7 @@ use Rattle.model.proofs.Tests.{by-test}
 use Rattle.model.proofs.Packed.{packed-append, packed-starts, packed-grows}
 use Rattle.model.proofs.Objects.{kind-traced, kind-untraced, cells-length}
 use Rattle.model.proofs.Middle.{field-cell, packed-snoc}
-use Rattle.scanning.specs.Scanning.{valuesOf, rawsOf}
+use Rattle.engine_scanning.specs.Scanning.{valuesOf, rawsOf}
 
 -- p words are passed; the next are the last values and then the last raw words of the objects in `gone`
 pub record Cursor (Y : Layout) (H o : List ℕ) (p values raws : ℕ) (gone rest : List ℕ) : Type 0 where

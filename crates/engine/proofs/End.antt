@@ -7,7 +7,7 @@ use mathlib.Core.Logic.{inl, inr, ⊎-elim}
 use mathlib.Core.List.{List}
 use lib.ListN.{length}
 use lib.Seq.{ext-getD}
-use Rattle.model.specs.Words.{State, lent, at, halfWords, other, firstWord, otherFirst, free}
+use Rattle.model.specs.Words.{State, stateOf, at, halfWords, other, firstWord, otherFirst, free}
 use Rattle.model.specs.Headers.{Layout, Marks}
 use Rattle.model.specs.Discovery.{mem, packed}
 use Rattle.model.specs.Collection.{cells, orderAt, live, collected}
@@ -24,7 +24,7 @@ use Rattle.model.proofs.During.{order-heads, order-room, end-word, end-roots, e
 use Rattle.model.proofs.Middle.{halves-ordered, stage-null}
 use Rattle.runs.specs.Runs.{cleared}
 use Rattle.runs.proofs.RunLaws.{cleared-length, cleared-inside, cleared-outside}
-use Rattle.scanning.specs.Scanning.{between}
+use Rattle.engine_scanning.specs.Scanning.{between}
 use Rattle.engine.specs.Evacuation.{Emptied, rooted, evacuated, SafeEvacuation}
 use Rattle.engine.specs.Middle.{stateAfter}
 use Rattle.engine.proofs.Slices.{safe-roots, after-roots, scan-starts, safe-slice}
@@ -121,7 +121,7 @@ module _ (Y : Layout) (K : Marks Y) (s : State) (v : SoundTests Y s) where
   leaves = evacuated Y (s .heap) (s .roots) (firstWord s) (free s - firstWord s) (otherFirst s)
 
   -- THE END
-  pub ended-is : lent (leaves .heap) (leaves .roots)
+  pub ended-is : stateOf (leaves .heap) (leaves .roots)
       (record { half = other (s .«record» .half); free = record { 0 = leaves .free } }) ≡ collected Y s
   unfolding evacuated stateAfter
   ended-is =

@@ -10,7 +10,7 @@ use mathlib.Core.List.{List}
 use mathlib.Core.Option.{none}
 use lib.ListN.{length, List·getD-eq-default}
 use lib.Seq.{ext-getD}
-use Rattle.model.specs.Words.{State, lent, at, halfWords, other, firstWord, otherFirst}
+use Rattle.model.specs.Words.{State, stateOf, at, halfWords, other, firstWord, otherFirst}
 use Rattle.model.specs.Headers.{Layout, Marks}
 use Rattle.model.specs.Discovery.{mem, packed}
 use Rattle.model.specs.Soundness.{sound}
@@ -26,7 +26,7 @@ use Rattle.model.proofs.Collected.{live-is}
 use Rattle.model.proofs.Stage.{stage-passed, stage-coming, stage-rest, stage-header, stage-kept, stage-length}
 use Rattle.model.proofs.During.{rename-stable, order-heads, order-room, root-found, ended}
 use Rattle.model.proofs.Middle.{halves-ordered, stage-null, order-later, during-still}
-use Rattle.scanning.specs.Scanning.{Scan, between, run}
+use Rattle.engine_scanning.specs.Scanning.{Scan, between, run}
 use Rattle.engine.specs.Evacuation.{Emptied, rooted, scanned}
 use Rattle.engine.specs.Middle.{stateAfter, placeAfter, Middle}
 use Rattle.engine.proofs.Midway.{Midway}
@@ -115,7 +115,7 @@ module _ (Y : Layout) (K : Marks Y) (s : State) (v : SoundTests Y s) where
 
   -- a scan that stands after p words
   stands-is : (p : ℕ) (h : List ℕ) (c : Scan) → Scans Y s (orderAt Y s p) p h c
-      → lent h (e .roots) (record { half = other (s .«record» .half); free = record { 0 = c .free } }) ≡ during Y s p
+      → stateOf h (e .roots) (record { half = other (s .«record» .half); free = record { 0 = c .free } }) ≡ during Y s p
   unfolding stage
   stands-is p h c I =
       λ i. record {
@@ -126,7 +126,7 @@ module _ (Y : Layout) (K : Marks Y) (s : State) (v : SoundTests Y s) where
 
   -- a slice: from the state after p words, at most n more give the state after p + n
   slice-is : (n p : ℕ) (h : List ℕ) (c : Scan) → Scans Y s (orderAt Y s p) p h c
-      → lent (run Y n h c .heap) (e .roots)
+      → stateOf (run Y n h c .heap) (e .roots)
       (record { half = other (s .«record» .half); free = record { 0 = run Y n h c .scan .free } }) ≡ during Y s (p + n)
   slice-is n p h c I =
       let r = slice Y K s v n p h c I in

@@ -25,7 +25,7 @@ use Rattle.model.proofs.During.{settle-stable}
 use Rattle.model.proofs.Middle.{halves-ordered, cell-word, packed-snoc, header-within, header-half, header-outside, header-alone, distinct-fits}
 use Rattle.runs.specs.Runs.{copiedRun}
 use Rattle.runs.proofs.RunLaws.{Outside, Apart, copied-outside, copied-inside, copied-length}
-use Rattle.moving.specs.Moving.{moved}
+use Rattle.engine_moving.specs.Moving.{moved}
 
 -- midway in a collection of s: the objects of the order o are copied, p words of the copies are passed, and the heap is h
 pub record Midway (Y : Layout) (s : State) (o : List ℕ) (p : ℕ) (h : List ℕ) : Type 0 where

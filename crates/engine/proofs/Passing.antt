@@ -20,9 +20,9 @@ use Rattle.model.proofs.Visits.{Starts, visit-starts, visit-has}
 use Rattle.model.proofs.Packed.{packed-starts, packed-grows}
 use Rattle.model.proofs.Soundness.{SoundTests}
 use Rattle.model.proofs.Middle.{visit-none, header-within, distinct-fits, cell-header}
-use Rattle.moving.specs.Moving.{renamed, MayRename}
-use Rattle.scanning.specs.Scanning.{Scan, passed, MayPass}
-use Rattle.scanning.proofs.PassingLaws.{passed-header, passed-raw, passed-value}
+use Rattle.engine_moving.specs.Moving.{renamed, MayRename}
+use Rattle.engine_scanning.specs.Scanning.{Scan, passed, MayPass}
+use Rattle.engine_scanning.proofs.PassingLaws.{passed-header, passed-raw, passed-value}
 use Rattle.engine.proofs.Midway.{Midway}
 use Rattle.engine.proofs.Advancing.{keep, write}
 use Rattle.engine.proofs.Cursors.{Cursor, past-value, past-raw, header-cell, object-fits, past-header}

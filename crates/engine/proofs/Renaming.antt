@@ -23,9 +23,9 @@ use Rattle.model.proofs.Soundness.{SoundTests}
 use Rattle.model.proofs.Values.{address-leads}
 use Rattle.model.proofs.Keeping.{tile}
 use Rattle.model.proofs.Middle.{visit-again, visit-new, visit-none, plain-leads, rename-plain, rename-address, header-within, distinct-fits}
-use Rattle.moving.specs.declared.Met.the-variants.{Copied, Found}
-use Rattle.moving.specs.Moving.{left, moved, renamed, MayRename}
-use Rattle.moving.proofs.MovingLaws.{relocated-copied, relocated-found, renamed-address, renamed-plain}
+use Rattle.engine_moving.specs.declared.Met.the-variants.{Copied, Found}
+use Rattle.engine_moving.specs.Moving.{left, moved, renamed, MayRename}
+use Rattle.engine_moving.proofs.MovingLaws.{relocated-copied, relocated-found, renamed-address, renamed-plain}
 use Rattle.engine.proofs.Midway.{Midway, header-kept, same-size, more-words, copy-within, moved-midway}
 
 -- what renaming w leaves, at the order o

@@ -8,10 +8,10 @@ use lib.ListN.{length, getD, set, take, drop}
 use lib.Seq.{take-suc-set, drop-set-lt, drop-cons, append-snoc, drop-length, take-length}
 use Rattle.model.specs.Headers.{Layout}
 use Rattle.runs.specs.Runs.{cleared}
-use Rattle.moving.specs.Moving.{Left, renamed, MayRename}
-use Rattle.scanning.specs.Scanning.{Freed, freed, ended, between, run, SafeRun}
+use Rattle.engine_moving.specs.Moving.{Left, renamed, MayRename}
+use Rattle.engine_scanning.specs.Scanning.{Freed, freed, ended, between, run, SafeRun}
 use Rattle.engine.specs.Evacuation.{Emptied, emptied, rootFirst, rooted, SafeRoots, scanned, evacuated, SafeEvacuation}
-use Rattle.moving.proofs.MovingLaws.{renamed-length}
+use Rattle.engine_moving.proofs.MovingLaws.{renamed-length}
 
 -- what the roots before an index, done, and the outcome of the others make together
 abbrev pub joined : List ℕ → Emptied → Emptied

@@ -22,10 +22,10 @@ use Rattle.model.proofs.Soundness.{SoundTests}
 use Rattle.model.proofs.Values.{leads-address, value-header}
 use Rattle.model.proofs.During.{rename-stable, order-step}
 use Rattle.model.proofs.Middle.{distinct-fits}
-use Rattle.moving.specs.Moving.{renamed}
-use Rattle.scanning.specs.Scanning.{Scan, between, After, passed, run, MayPass, SafeRun}
+use Rattle.engine_moving.specs.Moving.{renamed}
+use Rattle.engine_scanning.specs.Scanning.{Scan, between, After, passed, run, MayPass, SafeRun}
 use Rattle.engine.specs.Evacuation.{Emptied, rooted, SafeRoots}
-use Rattle.scanning.proofs.RunLaws.{run-done, run-step}
+use Rattle.engine_scanning.proofs.RunLaws.{run-done, run-step}
 use Rattle.engine.proofs.Midway.{Midway}
 use Rattle.engine.proofs.Renaming.{renames}
 use Rattle.engine.proofs.Passing.{Scans, turn}

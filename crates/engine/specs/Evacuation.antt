@@ -4,8 +4,8 @@ use mathlib.Core.List.{List, [], _∷_}
 use lib.ListN.{length}
 use Rattle.model.specs.Headers.{Layout}
 use Rattle.runs.specs.Runs.{cleared}
-use Rattle.moving.specs.Moving.{renamed, MayRename}
-use Rattle.scanning.specs.Scanning.{After, between, run, SafeRun}
+use Rattle.engine_moving.specs.Moving.{renamed, MayRename}
+use Rattle.engine_scanning.specs.Scanning.{After, between, run, SafeRun}
 
 -- what is left: the heap, the roots, and the next free word
 pub record Emptied : Type 0 where

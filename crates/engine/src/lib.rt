@@ -1,12 +1,13 @@
-// Cheney's collection of a sound heap: the roots renamed, the copies scanned until none is left to scan, the old words cleared.
-// It is proved equal to the definition of a collection, which knows of no algorithm.
+// Cheney's collection of a sound heap: the roots renamed, the copies scanned until none is left to scan, the
+// old words cleared. It is proved equal to the definition of a collection, which knows of no algorithm.
 ghost use mathlib.Core.Path.{_≡_};
 ghost use mathlib.Core.Bool.{true};
 ghost use Rattle.model.specs.Headers.{tuple};
-ghost use Rattle.model.specs.Words.{lent};
+ghost use Rattle.model.specs.Words.{stateOf};
 ghost use Rattle.model.specs.Soundness.{sound};
 ghost use Rattle.model.specs.Collection.{live, collected};
 ghost use Rattle.model.specs.Answers.{says};
+ghost use Rattle.model.specs.Contracts.{lent, leaves};
 ghost use Rattle.model.specs.declared.Answer.the-variants as Says;
 ghost use Rattle.engine.specs.Evacuation.{emptied, rooted, SafeRoots, evacuated, SafeEvacuation};
 use model::Index;
@@ -22,13 +23,14 @@ pub struct Collected {
 // Renames the roots by rising number. Answers the next free word.
 fn visit_roots(heap: &mut [u32], roots: &mut [u32], new: Index) -> Index
     requires { ⌜ SafeRoots tuple (now heap) (now roots) (new .0) ⌝ }
-    ensures { λ r. ⌜ emptied (now (heap .exit)) (now (roots .exit)) (r .0) ≡ rooted tuple (now (heap .entry)) (now (roots .entry)) (new .0) ⌝ }
+    ensures { λ r. ⌜ emptied (now (heap .exit)) (now (roots .exit)) (r .0)
+        ≡ rooted tuple (now (heap .entry)) (now (roots .entry)) (new .0) ⌝ }
 {
     let mut free = new;
     let mut i: usize = 0;
     while i < roots.len() {
         let word = roots[i];
-        let m = moving::rename(heap, word, free);
+        let m = engine_moving::rename(heap, word, free);
         roots[i] = m.word;
         free = m.free;
         i += 1;
@@ -40,25 +42,28 @@ fn visit_roots(heap: &mut [u32], roots: &mut [u32], new: Index) -> Index
 // Answers the word past the copies.
 fn evacuate(heap: &mut [u32], roots: &mut [u32], old: Index, used: usize, new: Index) -> Index
     requires { ⌜ SafeEvacuation tuple (now heap) (now roots) (old .0) used (new .0) ⌝ }
-    ensures { λ r. ⌜ emptied (now (heap .exit)) (now (roots .exit)) (r .0) ≡ evacuated tuple (now (heap .entry)) (now (roots .entry)) (old .0) used (new .0) ⌝ }
+    ensures { λ r. ⌜ emptied (now (heap .exit)) (now (roots .exit)) (r .0)
+        ≡ evacuated tuple (now (heap .entry)) (now (roots .entry)) (old .0) used (new .0) ⌝ }
 {
     let free = visit_roots(heap, roots, new);
-    let end = scanning::pass_objects(heap, new, free);
+    let end = engine_scanning::pass_objects(heap, new, free);
     runs::clear(heap, old.0, used);
     end
 }
 
-// Collects a heap that is known to be sound. Past its free index a sound heap is 0 already: only the used words are cleared.
+// Collects a heap that is known to be sound. Past its free index a sound heap is 0 already: only the used
+// words are cleared.
 pub fn collect_sound(heap: &mut [u32], roots: &mut [u32], record: Record) -> Collected
-    requires { ⌜ sound tuple (lent (now heap) (now roots) «record») ≡ true ⌝ }
-    ensures { λ r. ⌜ says (Says.Live (r .live)) (lent (now (heap .exit)) (now (roots .exit)) (r .«record»))
-        ≡ says (Says.Live (live tuple (lent (now (heap .entry)) (now (roots .entry)) «record»))) (collected tuple (lent (now (heap .entry)) (now (roots .entry)) «record»)) ⌝ }
+    requires { ⌜ sound tuple (stateOf (now heap) (now roots) «record») ≡ true ⌝ }
+    ensures { λ r. ⌜ says (Says.Live (r .live)) (leaves heap roots (r .«record»))
+        ≡ says (Says.Live (live tuple (lent heap roots «record»)))
+        (collected tuple (lent heap roots «record»)) ⌝ }
 {
-    let words = (heap.len() - 1) / 2;
+    let half_words = shape::half_words(heap.len());
     let half = record.half;
     let other = shape::other_half(half);
-    let old = shape::first_of(words, half);
-    let new = shape::first_of(words, other);
+    let old = shape::first_of(half_words, half);
+    let new = shape::first_of(half_words, other);
     let used = record.free.0 - old.0;
     let end = evacuate(heap, roots, old, used, new);
     let live = (end.0 - new.0) as u32;

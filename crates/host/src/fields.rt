@@ -1,15 +1,14 @@
-// The calls on one field of the object that a root names: load, store, raw read, raw write. None changes the record, and each
-// looks at the object's header and at that field, and at no other heap word.
+// The calls on one field of the object that a root names: load, store, raw read, raw write. None changes the
+// record, and each looks at the object's header and at that field, and at no other heap word.
 ghost use mathlib.Core.Path.{_≡_};
-ghost use Rattle.model.specs.Words.{lent};
 ghost use Rattle.model.specs.Headers as Layouts;
-ghost use Rattle.model.specs.Answers.{says};
+ghost use Rattle.model.specs.Contracts.{thinLent, thinOutcome};
 ghost use Rattle.model.specs.Calls as Calls;
 use model::Answer;
 use model::Record;
 
-// Root `to` gets the word in a field of a traced object: done, or SHAPE, ROOT, OBJECT, KIND or FIELD. Leaves the heap
-// and the record.
+// Root `to` gets the word in a field of a traced object: done, or SHAPE, ROOT, OBJECT, KIND or FIELD. Leaves
+// the heap and the record.
 pub fn load(
     heap: &[u32],
     roots: &mut [u32],
@@ -18,15 +17,16 @@ pub fn load(
     field: usize,
     to: usize,
 ) -> Answer
-    ensures { λ r. ⌜ says r (lent (now (heap .entry)) (now (roots .exit)) (now («record» .exit))) ≡ Calls.load Layouts.tuple object field to (lent (now (heap .entry)) (now (roots .entry)) (now («record» .entry))) ⌝ }
+    ensures { λ r. ⌜ thinOutcome r heap roots «record»
+        ≡ Calls.load Layouts.tuple object field to (thinLent heap roots «record») ⌝ }
 {
     let answered = objects::load(heap, roots, *record, object, field, to);
     *record = answered.record;
     answered.answer
 }
 
-// A field of a traced object gets root `from`'s word: done, or SHAPE, ROOT, OBJECT, KIND or FIELD. Leaves the roots,
-// the record and all other heap words.
+// A field of a traced object gets root `from`'s word: done, or SHAPE, ROOT, OBJECT, KIND or FIELD. Leaves the
+// roots, the record and all other heap words.
 pub fn store(
     heap: &mut [u32],
     roots: &[u32],
@@ -35,7 +35,8 @@ pub fn store(
     field: usize,
     from: usize,
 ) -> Answer
-    ensures { λ r. ⌜ says r (lent (now (heap .exit)) (now (roots .entry)) (now («record» .exit))) ≡ Calls.store Layouts.tuple object field from (lent (now (heap .entry)) (now (roots .entry)) (now («record» .entry))) ⌝ }
+    ensures { λ r. ⌜ thinOutcome r heap roots «record»
+        ≡ Calls.store Layouts.tuple object field from (thinLent heap roots «record») ⌝ }
 {
     let answered = objects::store(heap, roots, *record, object, field, from);
     *record = answered.record;
@@ -50,15 +51,16 @@ pub fn raw_read(
     object: usize,
     field: usize,
 ) -> Answer
-    ensures { λ r. ⌜ says r (lent (now (heap .entry)) (now (roots .entry)) (now («record» .exit))) ≡ Calls.rawRead Layouts.tuple object field (lent (now (heap .entry)) (now (roots .entry)) (now («record» .entry))) ⌝ }
+    ensures { λ r. ⌜ thinOutcome r heap roots «record»
+        ≡ Calls.rawRead Layouts.tuple object field (thinLent heap roots «record») ⌝ }
 {
     let answered = objects::raw_read(heap, roots, *record, object, field);
     *record = answered.record;
     answered.answer
 }
 
-// A field of an untraced object gets a raw word: done, or SHAPE, ROOT, OBJECT, KIND or FIELD. Leaves the roots, the
-// record and all other heap words.
+// A field of an untraced object gets a raw word: done, or SHAPE, ROOT, OBJECT, KIND or FIELD. Leaves the
+// roots, the record and all other heap words.
 pub fn raw_write(
     heap: &mut [u32],
     roots: &[u32],
@@ -67,7 +69,8 @@ pub fn raw_write(
     field: usize,
     number: u32,
 ) -> Answer
-    ensures { λ r. ⌜ says r (lent (now (heap .exit)) (now (roots .entry)) (now («record» .exit))) ≡ Calls.rawWrite Layouts.tuple object field number (lent (now (heap .entry)) (now (roots .entry)) (now («record» .entry))) ⌝ }
+    ensures { λ r. ⌜ thinOutcome r heap roots «record»
+        ≡ Calls.rawWrite Layouts.tuple object field number (thinLent heap roots «record») ⌝ }
 {
     let answered = objects::raw_write(heap, roots, *record, object, field, number);
     *record = answered.record;

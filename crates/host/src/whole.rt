@@ -1,8 +1,8 @@
-// The calls on the heap as a whole: fresh, check, collect, allocate; and the step of a session, whichever its call.
+// The calls on the heap as a whole: fresh, check, collect, allocate; and the step of a session, whichever its
+// call.
 ghost use mathlib.Core.Path.{_≡_};
-ghost use Rattle.model.specs.Words.{lent};
 ghost use Rattle.model.specs.Headers as Layouts;
-ghost use Rattle.model.specs.Answers.{says};
+ghost use Rattle.model.specs.Contracts.{thinLent, thinOutcome};
 ghost use Rattle.model.specs.Calls as Calls;
 ghost use Rattle.model.specs.Sessions as Sessions;
 use model::Answer;
@@ -10,37 +10,41 @@ use model::Call;
 use model::Kind;
 use model::Record;
 
-// Clears all heap words and sets the record to half A and free index 1: done, or the heap-length part of SHAPE, and
-// then the record stays. Leaves the roots, and looks neither at them nor at what the record says.
+// Clears all heap words and sets the record to half A and free index 1: done, or the heap-length part of
+// SHAPE, and then the record stays. Leaves the roots, and looks neither at them nor at what the record says.
 pub fn fresh(heap: &mut [u32], roots: &[u32], record: &mut Record) -> Answer
-    ensures { λ r. ⌜ says r (lent (now (heap .exit)) (now (roots .entry)) (now («record» .exit))) ≡ Calls.fresh (lent (now (heap .entry)) (now (roots .entry)) (now («record» .entry))) ⌝ }
+    ensures { λ r. ⌜ thinOutcome r heap roots «record» ≡ Calls.fresh (thinLent heap roots «record») ⌝ }
 {
-    let answered = access::fresh::fresh(heap, roots, *record);
+    let answered = blind::fresh(heap, roots, *record);
     *record = answered.record;
     answered.answer
 }
 
-// Whether the heap is sound, or SHAPE. Leaves all as it was: the marks that it makes in the heap are cleared again.
+// Whether the heap is sound, or SHAPE. Leaves all as it was: the marks that it makes in the heap are cleared
+// again.
 pub fn check(heap: &mut [u32], roots: &[u32], record: &mut Record) -> Answer
-    ensures { λ r. ⌜ says r (lent (now (heap .exit)) (now (roots .entry)) (now («record» .exit))) ≡ Calls.check Layouts.tuple (lent (now (heap .entry)) (now (roots .entry)) (now («record» .entry))) ⌝ }
+    ensures { λ r. ⌜ thinOutcome r heap roots «record»
+        ≡ Calls.check Layouts.tuple (thinLent heap roots «record») ⌝ }
 {
     let answered = checker::check(heap, roots, *record);
     *record = answered.record;
     answered.answer
 }
 
-// Copies what the roots reach to the other half, and clears this one: the live words, or SHAPE or DAMAGED. Every object
-// may move; the roots and the record follow.
+// Copies what the roots reach to the other half, and clears this one: the live words, or SHAPE or DAMAGED.
+// Every object may move; the roots and the record follow.
 pub fn collect(heap: &mut [u32], roots: &mut [u32], record: &mut Record) -> Answer
-    ensures { λ r. ⌜ says r (lent (now (heap .exit)) (now (roots .exit)) (now («record» .exit))) ≡ Calls.collect Layouts.tuple (lent (now (heap .entry)) (now (roots .entry)) (now («record» .entry))) ⌝ }
+    ensures { λ r. ⌜ thinOutcome r heap roots «record»
+        ≡ Calls.collect Layouts.tuple (thinLent heap roots «record») ⌝ }
 {
     let answered = collector::collect(heap, roots, *record);
     *record = answered.record;
     answered.answer
 }
 
-// Root `to` gets a new object, its fields null or raw zeros: done, or SHAPE, ROOT, COUNT, DAMAGED or ROOM. If there is
-// no room it collects first, and every object may move; the record follows, also where the answer is ROOM.
+// Root `to` gets a new object, its fields null or raw zeros: done, or SHAPE, ROOT, COUNT, DAMAGED or ROOM. If
+// there is no room it collects first, and every object may move; the record follows, also where the answer is
+// ROOM.
 pub fn allocate(
     heap: &mut [u32],
     roots: &mut [u32],
@@ -49,7 +53,8 @@ pub fn allocate(
     fields: usize,
     to: usize,
 ) -> Answer
-    ensures { λ r. ⌜ says r (lent (now (heap .exit)) (now (roots .exit)) (now («record» .exit))) ≡ Calls.allocate Layouts.tuple kind fields to (lent (now (heap .entry)) (now (roots .entry)) (now («record» .entry))) ⌝ }
+    ensures { λ r. ⌜ thinOutcome r heap roots «record»
+        ≡ Calls.allocate Layouts.tuple kind fields to (thinLent heap roots «record») ⌝ }
 {
     let answered = allocator::allocate(heap, roots, *record, kind, fields, to);
     *record = answered.record;
@@ -58,7 +63,8 @@ pub fn allocate(
 
 // One session call, whichever it is: its answer, and what it leaves.
 pub fn step(heap: &mut [u32], roots: &mut [u32], record: &mut Record, call: Call) -> Answer
-    ensures { λ r. ⌜ says r (lent (now (heap .exit)) (now (roots .exit)) (now («record» .exit))) ≡ Sessions.step Layouts.tuple call (lent (now (heap .entry)) (now (roots .entry)) (now («record» .entry))) ⌝ }
+    ensures { λ r. ⌜ thinOutcome r heap roots «record»
+        ≡ Sessions.step Layouts.tuple call (thinLent heap roots «record») ⌝ }
 {
     let answered = session::step(heap, roots, *record, call);
     *record = answered.record;

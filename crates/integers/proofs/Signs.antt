@@ -51,5 +51,5 @@ down v f b = ap (λ (z : ℤ). negsuc 0 -ℤ z) (toZ-ofZ w64 v f ∙ b .is) ∙ 
 pub below-is : (v : ℤ) → SFits w64 v → (b : Below v) → toZ w64 (ofZ w64 (negsuc 0 -ℤ toZ w64 (ofZ w64 v))) ≡ pos (b .n)
 below-is v f b = ap (λ (z : ℤ). toZ w64 (ofZ w64 z)) (down v f b) ∙ toZ-pos w64 (b .n) (b .small)
 
-pub size-is : (v : ℤ) → SFits w64 v → (b : AtLeast v) → toZ w64 (ofZ w64 v) ≡ pos (b .n)
-size-is v f b = toZ-ofZ w64 v f ∙ b .is
+pub magnitude-is : (v : ℤ) → SFits w64 v → (b : AtLeast v) → toZ w64 (ofZ w64 v) ≡ pos (b .n)
+magnitude-is v f b = toZ-ofZ w64 v f ∙ b .is

@@ -1,10 +1,8 @@
-// Integers and their words: v is held as 2v + 1 in two's complement. Signed numbers are split by their sign at once, and
-// all that follows is unsigned.
+// Integers and their words: v is held as 2v + 1 in two's complement. Signed numbers are split by their sign
+// at once, and all that follows is unsigned.
 ghost use mathlib.Core.Path.{_≡_};
 ghost use Rattle.model.specs.Values as Values;
 ghost use Rattle.integers.specs.Tagging.{tagged};
-
-pub mod set_integer;
 
 // The largest integer that a word can hold; the smallest is -1 less it.
 const MAX_INTEGER: u64 = 1073741823;
@@ -29,20 +27,20 @@ pub fn tag(value: i64) -> Tagged
         }
         return Tagged::Word((LAST_WORD - 2 * below) as u32);
     }
-    let size = value as u64;
-    if MAX_INTEGER < size {
+    let magnitude = value as u64;
+    if MAX_INTEGER < magnitude {
         return Tagged::OutOfRange;
     }
-    Tagged::Word((2 * size + 1) as u32)
+    Tagged::Word((2 * magnitude + 1) as u32)
 }
 
 // The integer that an odd word holds.
 pub fn untag(word: u32) -> i32
     ensures { λ r. ⌜ r ≡ Values.untag word ⌝ }
 {
-    let size = word as u64 / 2;
-    if size <= MAX_INTEGER {
-        return size as i32;
+    let magnitude = word as u64 / 2;
+    if magnitude <= MAX_INTEGER {
+        return magnitude as i32;
     }
     let below = (LAST_WORD - word as u64) / 2;
     -1 - below as i32

@@ -13,7 +13,7 @@ use Rattle.model.specs.Demand2 as D
 use Rattle.model.specs.Discovery.{packed, wordsBefore}
 use Rattle.model.specs.Headers.{Layout}
 use Rattle.model.specs.Objects.{kind, fieldCount, size, fieldWords}
-use Rattle.model.specs.Words.{State, at, halfWords, other, firstOf, firstWord, otherFirst, free}
+use Rattle.model.specs.Words.{State, at, halfWordsOf, halfWords, other, firstOf, firstWord, otherFirst, free}
 use Rattle.model.proofs.Halves.{other-other, build-length, build-new, build-old, filled-length, filled-in, filled-out}
 use Rattle.model.proofs.Lists.{getD-map}
 use Rattle.model.proofs.Members.{In}
@@ -53,7 +53,7 @@ module _ (Y : Layout) (s : State) (h : SoundTests Y s) where
       ∙ omega (arith, filled-length S ws ws-fits, length-replicate S (zero), h .shape .odd)
 
   pub new-room : halfWords (s′ .heap) ≡ S
-  new-room = ap (λ x. (x - 1) / 2) new-length
+  new-room = ap halfWordsOf new-length
 
   pub new-first : firstWord s′ ≡ otherFirst s
   unfolding copied

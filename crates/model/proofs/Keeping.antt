@@ -14,7 +14,7 @@ use Rattle.model.specs.Graph.{null}
 use Rattle.model.specs.Headers.{Layout}
 use Rattle.model.specs.Objects.{kind, fieldCount}
 use Rattle.model.specs.Soundness.{tiles, headersFrom, headers, isValue}
-use Rattle.model.specs.Words.{State, withHeap, at, halfWords, other, firstOf, firstWord, otherFirst, free}
+use Rattle.model.specs.Words.{State, withHeap, at, halfWordsOf, halfWords, other, firstOf, firstWord, otherFirst, free}
 use Rattle.model.proofs.Members.{In}
 use Rattle.model.proofs.Retiling.{tiles-same}
 use Rattle.model.proofs.Shape.{first-in, halves-apart}
@@ -64,7 +64,7 @@ module _ (Y : Layout) (s : State) (h : SoundTests Y s) where
     with = withHeap H′ s
 
     with-room : halfWords H′ ≡ halfWords (s .heap)
-    with-room = ap (λ x. (x - 1) / 2) len
+    with-room = ap halfWordsOf len
 
     with-base : firstWord with ≡ firstWord s
     with-base = ap (λ x. firstOf x (s .«record» .half)) with-room

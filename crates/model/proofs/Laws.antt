@@ -17,7 +17,7 @@ use Rattle.model.specs.declared.Index.{Index}
 use Rattle.model.specs.declared.Refusal.the-variants as Why
 use Rattle.model.specs.declared.Place.the-variants as Place
 use Rattle.model.specs.declared.Answer.the-variants as Says
-use Rattle.model.specs.Answers.{outcome, refuse}
+use Rattle.model.specs.Answers.{outcomeOf, refuse}
 use Rattle.model.specs.Calls.{fresh}
 use Rattle.model.specs.Changes.{noRoot, rootWord, fits}
 use Rattle.model.specs.Graph.{object}
@@ -183,7 +183,7 @@ keeps-lengths Y = record {
 
 pub settles : Law.Settles
 settles o a b H H′ R R′ e f =
-    let g : outcome a H R ≡ outcome b H′ R′ = e ∙ sym f in (
+    let g : outcomeOf a H R ≡ outcomeOf b H′ R′ = e ∙ sym f in (
       λ i. record { answer = ap (λ z. z .answer) g i; «record» = ap (λ z. z .left .«record») g i },
       ap (λ z. z .left .heap) g,
       ap (λ z. z .left .roots) g,

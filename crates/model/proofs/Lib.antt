@@ -11,6 +11,7 @@ pub mod Same
 pub mod Integers
 pub mod Headers
 pub mod PlainAnswers
+pub mod Refusing
 pub mod Telling
 -- the order of discovery, for heaps and graphs alike
 pub mod Visits

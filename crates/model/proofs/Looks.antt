@@ -34,7 +34,7 @@ use Rattle.model.specs.Shape.{badShapeOf, badShape}
 use Rattle.model.specs.Soundness.{headers}
 use Rattle.model.specs.Values.{isOdd, isNull, tag}
 use Rattle.model.specs.Window.{window, shown}
-use Rattle.model.specs.Words.{State, lent, withHeap, at, free}
+use Rattle.model.specs.Words.{State, stateOf, withHeap, at, free}
 use Rattle.model.proofs.Collected.{new-roots}
 use Rattle.model.proofs.Deciding.{sound-tests}
 use Rattle.model.proofs.Demand2.{collects}
@@ -46,7 +46,7 @@ use Rattle.model.proofs.Soundness.{SoundTests}
 use Rattle.model.proofs.Tests.{same?}
 
 -- outcomes that differ in their heaps at most
-but-heap : {a : Answer} {H H′ R : List ℕ} {q : Record} → L.Alike (says a (lent H R q)) (says a (lent H′ R q))
+but-heap : {a : Answer} {H H′ R : List ℕ} {q : Record} → L.Alike (says a (stateOf H R q)) (says a (stateOf H′ R q))
 but-heap = record { answer = refl; roots = refl; «record» = refl }
 
 -- ---- two heaps of one length

@@ -12,7 +12,7 @@ use Rattle.model.specs.Demand2 as D
 use Rattle.model.specs.Headers.{Layout}
 use Rattle.model.specs.Objects.{isTraced, kind, fieldCount, size, fieldIndex}
 use Rattle.model.specs.Values.{isAddress}
-use Rattle.model.specs.Words.{State, at, firstOf, firstWord, free}
+use Rattle.model.specs.Words.{State, at, halfWordsOf, halfWords, firstOf, firstWord, free}
 use Rattle.model.proofs.Deciding.{sound-tests}
 use Rattle.model.proofs.Members.{In, map-in-out, in-mem}
 use Rattle.model.proofs.Objects.{kind-traced, kind-untraced}
@@ -40,8 +40,8 @@ module _ (Y : Layout) (s : State) where
 
     same-first : firstWord t ≡ firstWord t′
     same-first =
-        ap (λ n. firstOf ((n - 1) / 2) (t .«record» .half)) same-length
-        ∙ ap (λ (h : Half). firstOf ((length (t′ .heap) - 1) / 2) h) same-half
+        ap (λ n. firstOf (halfWordsOf n) (t .«record» .half)) same-length
+        ∙ ap (λ (h : Half). firstOf (halfWords (t′ .heap)) h) same-half
 
     same-free : free t ≡ free t′
     same-free = omega (arith, c .used, c′ .used, same-first, same-live)

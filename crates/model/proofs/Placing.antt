@@ -20,7 +20,7 @@ use Rattle.model.specs.Limits.{maxFields}
 use Rattle.model.specs.Objects.{address, index, kind, fieldCount, size}
 use Rattle.model.specs.Soundness.{tiles, headersFrom, headers, isValue}
 use Rattle.model.specs.Values.{isAddress}
-use Rattle.model.specs.Words.{State, at, halfWords, other, firstOf, firstWord, otherFirst, free}
+use Rattle.model.specs.Words.{State, at, halfWordsOf, halfWords, other, firstOf, firstWord, otherFirst, free}
 use Rattle.model.proofs.Keeping.{tile}
 use Rattle.model.proofs.Lists.{sets-before, sets-in, sets-past}
 use Rattle.model.proofs.Members.{In, in-append-left, in-snoc, in-last}
@@ -69,7 +69,7 @@ module _ (Y : Layout) (law : WritesBoth Y) (s : State) (h : SoundTests Y s) (k :
   place-length = length-sets (s .heap) (free s) vs
 
   place-room : halfWords (s⁺ .heap) ≡ halfWords (s .heap)
-  place-room = ap (λ x. (x - 1) / 2) place-length
+  place-room = ap halfWordsOf place-length
 
   place-first : firstWord s⁺ ≡ firstWord s
   unfolding placed

@@ -33,7 +33,7 @@ use Rattle.model.specs.Refusals as Row
 use Rattle.model.specs.Sessions.{step, Machine, answers, after}
 use Rattle.model.specs.Shape.{badShapeOf, badShape}
 use Rattle.model.specs.Soundness.{tiles, headersFrom, isValue, fieldsAreValues, sound}
-use Rattle.model.specs.Words.{State, lent, halfWords, firstOf, firstWord, free}
+use Rattle.model.specs.Words.{State, stateOf, halfWords, firstOf, firstWord, free}
 use Rattle.model.specs.Worked as Worked
 use Rattle.model.proofs.Conditions.{roots-decide}
 use Rattle.model.proofs.Deciding.{shape-decides, sound-decides}
@@ -181,7 +181,7 @@ depth-first-breaks-2 d =
 abbrev pub keepsWords : Machine
 keepsWords =
     record {
-      fresh = λ s. says Says.Done (lent (s .heap) (s .roots) freshRecord);
+      fresh = λ s. says Says.Done (stateOf (s .heap) (s .roots) freshRecord);
       step = step tuple;
     }
 

@@ -19,7 +19,7 @@ use Rattle.model.specs.Headers.{tuple}
 use Rattle.model.specs.Sessions.{step, Machine}
 use Rattle.model.specs.Shape.{badLength, badShapeOf, badShape}
 use Rattle.model.specs.Soundness.{tiles, headersFrom, isValue, fieldsAreValues, sound}
-use Rattle.model.specs.Words.{State, lent, withHeap, withRecord, withFree, halfWords, firstOf}
+use Rattle.model.specs.Words.{State, stateOf, withHeap, withRecord, withFree, halfWords, firstOf}
 use Rattle.model.specs.Worked as Worked
 use Rattle.model.proofs.Conditions.{roots-decide}
 use Rattle.model.proofs.Deciding.{length-decides, shape-decides}
@@ -44,7 +44,7 @@ restless-breaks-checkLeaves e =
 
 abbrev pub careless : Machine
 careless = changed (λ c s o. cond (sound tuple s || isRefusal (o .answer)) o
-    (says Says.Sound (lent (replicate (length (s .heap)) 0) (replicate (length (s .roots)) 0) (s .«record»))))
+    (says Says.Sound (stateOf (replicate (length (s .heap)) 0) (replicate (length (s .roots)) 0) (s .«record»))))
 
 -- word 0 is w, all else is as it should be
 abbrev pub word0 : ℕ → State

@@ -20,7 +20,7 @@ use Rattle.model.specs.Graph.{Graph}
 use Rattle.model.specs.GraphCalls.{graphStep, graphAnswers, graphAfter}
 use Rattle.model.specs.Headers.{Layout, WritesBoth}
 use Rattle.model.specs.Sessions.{step, machine, answers, after}
-use Rattle.model.specs.Words.{State, halfWords}
+use Rattle.model.specs.Words.{State, halfWordsOf, halfWords}
 use Rattle.model.proofs.CallAllocate.{allocate-room, Full, allocate-agrees}
 use Rattle.model.proofs.PlainAnswers.{refused-same}
 use Rattle.model.proofs.CallCollect.{live-same, collect-agrees}
@@ -98,7 +98,7 @@ module _ (Y : Layout) (law : WritesBoth Y) where
       (step-goes c s⁺ g m⁺)
 
   step-half : (c : Call) (s : State) → halfWords (step Y c s .left .heap) ≡ halfWords (s .heap)
-  step-half c s = ap (λ x. (x - 1) / 2) (step-lengths Y s c .0)
+  step-half c s = ap halfWordsOf (step-lengths Y s c .0)
 
   -- k calls, none of which the smaller heap answers "no room"
   pub runs : (cs : List Call) (k : ℕ) (s s⁺ : State) (g : Graph) → Represents Y s g → Represents Y s⁺ g

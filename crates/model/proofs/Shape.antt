@@ -11,7 +11,7 @@ use Rattle.model.specs.declared.Half.{Half}
 use Rattle.model.specs.declared.Half.the-variants.{A, B}
 use Rattle.model.specs.Limits.{maxHalf, maxWords, maxRoots}
 use Rattle.model.specs.Shape.{badLength, badShapeOf, badShape}
-use Rattle.model.specs.Words.{State, halfWords, other, firstOf, firstWord, otherFirst, free}
+use Rattle.model.specs.Words.{State, halfWordsOf, halfWords, other, firstOf, firstWord, otherFirst, free}
 use Rattle.model.proofs.Tests.{decide, or-none}
 
 pub record Shaped (s : State) : Type 0 where
@@ -23,18 +23,18 @@ pub record Shaped (s : State) : Type 0 where
   pub high : free s ≤ firstWord s + halfWords (s .heap)
 
 -- a length that is not refused: odd, and in its range
-pub record GoodLength (words : ℕ) : Type 0 where
-  pub odd : words ≡ 2 * ((words - 1) / 2) + 1
-  pub least : 1 ≤ (words - 1) / 2
-  pub most : (words - 1) / 2 ≤ maxHalf
+pub record GoodLength (n : ℕ) : Type 0 where
+  pub odd : n ≡ 2 * halfWordsOf n + 1
+  pub least : 1 ≤ halfWordsOf n
+  pub most : halfWordsOf n ≤ maxHalf
 
-pub good-length : (words : ℕ) → badLength words ≡ false → GoodLength words
-good-length words h =
-    let d = or-none _ (ltb maxWords words) h in
-    let e = or-none (eqb (words % 2) 0) (ltb words 3) (d .0) in
-    let f : words % 2 ≡ 0 → ⊥ = eqb-false (words % 2) 0 (e .0) in
-    let g : 3 ≤ words = ltb-false words 3 (e .1) in
-    let i : words ≤ maxWords = ltb-false maxWords words (d .1) in
+pub good-length : (n : ℕ) → badLength n ≡ false → GoodLength n
+good-length n h =
+    let d = or-none _ (ltb maxWords n) h in
+    let e = or-none (eqb (n % 2) 0) (ltb n 3) (d .0) in
+    let f : n % 2 ≡ 0 → ⊥ = eqb-false (n % 2) 0 (e .0) in
+    let g : 3 ≤ n = ltb-false n 3 (e .1) in
+    let i : n ≤ maxWords = ltb-false maxWords n (d .1) in
     record { odd = omega arith; least = omega arith; most = omega arith }
 
 pub shaped : (s : State) → badShape s ≡ false → Shaped s

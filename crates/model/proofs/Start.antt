@@ -18,7 +18,7 @@ use Rattle.model.specs.Limits.{maxWords}
 use Rattle.model.specs.Sessions.{machine}
 use Rattle.model.specs.Shape.{badLength}
 use Rattle.model.specs.Soundness.{headers}
-use Rattle.model.specs.Words.{State, lent, at, halfWords}
+use Rattle.model.specs.Words.{State, stateOf, at, halfWords}
 use Rattle.model.proofs.Deciding.{tests-sound}
 use Rattle.model.proofs.Lists.{getD-same}
 use Rattle.model.proofs.Members.{in-nil}
@@ -28,7 +28,7 @@ use Rattle.model.proofs.Soundness.{SoundTests}
 use Rattle.model.proofs.Tiling.{tiles-here, headers-here}
 
 pub fresh-good : (s : State) → badLength (length (s .heap)) ≡ false
-    → fresh s ≡ says Says.Done (lent (replicate (length (s .heap)) 0) (s .roots) freshRecord)
+    → fresh s ≡ says Says.Done (stateOf (replicate (length (s .heap)) 0) (s .roots) freshRecord)
 unfolding fresh refuse
 fresh-good s e = rw e
 
@@ -36,13 +36,13 @@ fresh-good s e = rw e
 module _ (Y : Layout) (e : D3.Session) where
   -- what is begun: the same number of words, all 0, half A, free index 1
   abbrev blank : State
-  blank = lent (replicate (length (e .words)) 0) (replicate (e .nullRoots) 0) freshRecord
+  blank = stateOf (replicate (length (e .words)) 0) (replicate (e .nullRoots) 0) freshRecord
 
   pub begun-is : D3.begun (machine Y) e ≡ blank
   begun-is =
       let v = e .halves in
       ap (λ o. o .left)
-      (fresh-good (lent (e .words) (replicate (e .nullRoots) 0) (e .«record»))
+      (fresh-good (stateOf (e .words) (replicate (e .nullRoots) 0) (e .«record»))
       (rw (
         ne-eqb (length (e .words) % 2) 0 (λ z. omega (arith, v .length-is)),
         le-ltb (length (e .words)) 3 (omega (arith, v .length-is, v .least)),

@@ -10,7 +10,7 @@ use Rattle.model.specs.declared.Answer.{Answer}
 use Rattle.model.specs.declared.Answer.the-variants as Says
 use Rattle.model.specs.declared.Answered.{Answered}
 use Rattle.model.specs.declared.Told.{Told}
-use Rattle.model.specs.Words.{State, lent}
+use Rattle.model.specs.Words.{State, stateOf}
 
 -- a call's answer, and what it leaves of what it was made on: of a state, or of an object graph
 pub record Outcome (L : Type 0) : Type 0 where
@@ -21,8 +21,8 @@ abbrev pub says : {L : Type 0} → Answer → L → Outcome L
 says a s = record { answer = a; left = s }
 
 -- the outcome of a by-value call, from what it returned and the words that it left: a promise is one equation of this
-abbrev pub outcome : Answered → List ℕ → List ℕ → Outcome State
-outcome a H R = says (a .answer) (lent H R (a .«record»))
+abbrev pub outcomeOf : Answered → List ℕ → List ℕ → Outcome State
+outcomeOf a H R = says (a .answer) (stateOf H R (a .«record»))
 
 -- refused where the test holds, and nothing changes; otherwise what follows
 unfoldable pub refuse : {L : Type 0} → Bool → Refusal → L → Outcome L → Outcome L

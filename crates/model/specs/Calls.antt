@@ -38,15 +38,15 @@ fresh s =
 -- set, copy and same look at no heap word
 
 unfoldable pub setInteger : ℕ → ℤ → State → Outcome State
-setInteger r v s =
-    onRoots (r ∷ []) s
-    (refuse (not (inRange v)) Why.Range s
-    (says Says.Done (withRoot s r (tag v))))
+setInteger to value s =
+    onRoots (to ∷ []) s
+    (refuse (not (inRange value)) Why.Range s
+    (says Says.Done (withRoot s to (tag value))))
 
 unfoldable pub setNull : ℕ → State → Outcome State
-setNull r s =
-    onRoots (r ∷ []) s
-    (says Says.Done (withRoot s r 0))
+setNull to s =
+    onRoots (to ∷ []) s
+    (says Says.Done (withRoot s to 0))
 
 unfoldable pub copy : ℕ → ℕ → State → Outcome State
 copy from to s =
@@ -54,9 +54,9 @@ copy from to s =
     (says Says.Done (withRoot s to (rootWord s from)))
 
 unfoldable pub same : ℕ → ℕ → State → Outcome State
-same r q s =
-    onRoots (r ∷ q ∷ []) s
-    (says (cond (eqb (rootWord s r) (rootWord s q)) Says.Yes Says.No) s)
+same one other s =
+    onRoots (one ∷ other ∷ []) s
+    (says (cond (eqb (rootWord s one) (rootWord s other)) Says.Yes Says.No) s)
 
 abbrev pub isOfKind : Kind → Kind → Bool
 isOfKind Traced k = isTraced k
@@ -74,18 +74,18 @@ module _ (Y : Layout) where
       (refuse (not (sound Y s)) Why.Damaged s
       (says (Says.Live (live Y s)) (collected Y s)))
 
-  -- n fields into root r: if n + 1 words fit, they are placed; if not, it collects first and tries again
+  -- a new object of n fields into the root `to`: if n + 1 words fit, they are placed; if not, it collects first and tries again
   unfoldable pub allocate : Kind → ℕ → ℕ → State → Outcome State
-  allocate k n r s =
-      let now = placed Y k n r s in
+  allocate kind fields to s =
+      let placedNow = placed Y kind fields to s in
       let s′ = collected Y s in
-      let then = placed Y k n r s′ in
-      onRoots (r ∷ []) s
-      (refuse (ltb maxFields n) Why.Count s
-      (cond (fits n s) (says Says.Done now)
+      let placedThen = placed Y kind fields to s′ in
+      onRoots (to ∷ []) s
+      (refuse (ltb maxFields fields) Why.Count s
+      (cond (fits fields s) (says Says.Done placedNow)
       (refuse (not (sound Y s)) Why.Damaged s
-      (refuse (not (fits n s′)) Why.Room s′
-      (says Says.Done then)))))
+      (refuse (not (fits fields s′)) Why.Room s′
+      (says Says.Done placedThen)))))
 
   -- OBJECT, KIND and FIELD in order: the word w names an object of kind k that has a field f
   abbrev pub onField : Kind → ℕ → ℕ → State → Outcome State → Outcome State
@@ -95,36 +95,36 @@ module _ (Y : Layout) where
       (refuse (leb (fieldCount Y (s .heap) (index Y w)) f) Why.Field s
       next))
 
-  -- field f of the object that root r names, into root to
+  -- a field of the object that the root `object` names, into the root `to`
   unfoldable pub load : ℕ → ℕ → ℕ → State → Outcome State
-  load r f to s =
-      onRoots (r ∷ to ∷ []) s
-      (onField Traced (rootWord s r) f s
-      (says Says.Done (withRoot s to (at (s .heap) (fieldIndex (index Y (rootWord s r)) f)))))
+  load object field to s =
+      onRoots (object ∷ to ∷ []) s
+      (onField Traced (rootWord s object) field s
+      (says Says.Done (withRoot s to (at (s .heap) (fieldIndex (index Y (rootWord s object)) field)))))
 
-  -- root from's word into field f of the object that root r names
+  -- the word of the root `from` into a field of the object that the root `object` names
   unfoldable pub store : ℕ → ℕ → ℕ → State → Outcome State
-  store r f from s =
-      onRoots (r ∷ from ∷ []) s
-      (onField Traced (rootWord s r) f s
-      (says Says.Done (withWord s (fieldIndex (index Y (rootWord s r)) f) (rootWord s from))))
+  store object field from s =
+      onRoots (object ∷ from ∷ []) s
+      (onField Traced (rootWord s object) field s
+      (says Says.Done (withWord s (fieldIndex (index Y (rootWord s object)) field) (rootWord s from))))
 
   unfoldable pub rawRead : ℕ → ℕ → State → Outcome State
-  rawRead r f s =
-      onRoots (r ∷ []) s
-      (onField Untraced (rootWord s r) f s
-      (says (Says.Number (at (s .heap) (fieldIndex (index Y (rootWord s r)) f))) s))
+  rawRead object field s =
+      onRoots (object ∷ []) s
+      (onField Untraced (rootWord s object) field s
+      (says (Says.Number (at (s .heap) (fieldIndex (index Y (rootWord s object)) field))) s))
 
   unfoldable pub rawWrite : ℕ → ℕ → ℕ → State → Outcome State
-  rawWrite r f x s =
-      onRoots (r ∷ []) s
-      (onField Untraced (rootWord s r) f s
-      (says Says.Done (withWord s (fieldIndex (index Y (rootWord s r)) f) x)))
+  rawWrite object field number s =
+      onRoots (object ∷ []) s
+      (onField Untraced (rootWord s object) field s
+      (says Says.Done (withWord s (fieldIndex (index Y (rootWord s object)) field) number)))
 
   unfoldable pub inspect : ℕ → State → Outcome State
-  inspect r s =
-      let w = rootWord s r in
-      onRoots (r ∷ []) s
+  inspect root s =
+      let w = rootWord s root in
+      onRoots (root ∷ []) s
       (cond (isOdd w) (says (Says.Integer (untag w)) s)
       (cond (isNull w) (says Says.Null s)
       (refuse (not (names Y s w)) Why.Object s

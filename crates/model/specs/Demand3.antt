@@ -17,7 +17,7 @@ use Rattle.model.specs.declared.Answer.the-variants as Says
 use Rattle.model.specs.declared.Call.{Call}
 use Rattle.model.specs.declared.Call.the-variants as Ask
 use Rattle.model.specs.Limits.{maxHalf, maxRoots}
-use Rattle.model.specs.Words.{State, lent, at, halfWords}
+use Rattle.model.specs.Words.{State, stateOf, at, halfWords}
 use Rattle.model.specs.Headers.{Layout}
 use Rattle.model.specs.Answers.{number, told}
 use Rattle.model.specs.Changes.{rootWord}
@@ -47,7 +47,7 @@ pub record Session : Type 0 where
 
 -- they are lent and made fresh
 abbrev pub begun : Machine → Session → State
-begun M e = M .fresh (lent (e .words) (replicate (e .nullRoots) 0) (e .«record»)) .left
+begun M e = M .fresh (stateOf (e .words) (replicate (e .nullRoots) 0) (e .«record»)) .left
 
 -- ---- "no room"
 

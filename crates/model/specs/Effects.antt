@@ -88,42 +88,42 @@ module _ (Y : Layout) where
     pub checkUnsound : (s : State) → Passes Ask.Check s → (M .step Ask.Check s .answer ≡ Says.Unsound) ↔ (Sound Y s → ⊥)
     pub checkLeaves : (s : State) → Passes Ask.Check s → Leaves (M .step Ask.Check s) s
     -- an allocation that fits places the object; one that does not collects first and tries again
-    pub allocateNow : (k : Kind) (n r : ℕ) (s : State) → Passes (Ask.Allocate k n r) s → n + 1 ≤ spare s
-        → Done (M .step (Ask.Allocate k n r) s) (NewObject Y k n r s)
-    pub allocateThen : (k : Kind) (n r : ℕ) (s : State) → Passes (Ask.Allocate k n r) s → CalledFor n s
-        → Done (M .step (Ask.Allocate k n r) s) (NewObject Y k n r (collected Y s))
+    pub allocateNow : (kind : Kind) (fields to : ℕ) (s : State) → Passes (Ask.Allocate kind fields to) s → fields + 1 ≤ spare s
+        → Done (M .step (Ask.Allocate kind fields to) s) (NewObject Y kind fields to s)
+    pub allocateThen : (kind : Kind) (fields to : ℕ) (s : State) → Passes (Ask.Allocate kind fields to) s → CalledFor fields s
+        → Done (M .step (Ask.Allocate kind fields to) s) (NewObject Y kind fields to (collected Y s))
     -- set root to an integer; set root to null; copy root to root
-    pub setInteger : (r : ℕ) (v : ℤ) (s : State) → Passes (Ask.SetInteger r v) s
-        → Done (M .step (Ask.SetInteger r v) s) (RootChanged s r (tag v))
-    pub setNull : (r : ℕ) (s : State) → Passes (Ask.SetNull r) s → Done (M .step (Ask.SetNull r) s) (RootChanged s r 0)
+    pub setInteger : (to : ℕ) (value : ℤ) (s : State) → Passes (Ask.SetInteger to value) s
+        → Done (M .step (Ask.SetInteger to value) s) (RootChanged s to (tag value))
+    pub setNull : (to : ℕ) (s : State) → Passes (Ask.SetNull to) s → Done (M .step (Ask.SetNull to) s) (RootChanged s to 0)
     pub copy : (from to : ℕ) (s : State) → Passes (Ask.Copy from to) s
         → Done (M .step (Ask.Copy from to) s) (RootChanged s to (rootWord s from))
     -- load: field of a traced object into a root; store: a root's word into a field of a traced object
-    pub load : (r f to : ℕ) (s : State) → Passes (Ask.Load r f to) s
-        → Done (M .step (Ask.Load r f to) s) (RootChanged s to (at (s .heap) (fieldAt s r f)))
-    pub store : (r f from : ℕ) (s : State) → Passes (Ask.Store r f from) s
-        → Done (M .step (Ask.Store r f from) s) (WordChanged s (fieldAt s r f) (rootWord s from))
+    pub load : (object field to : ℕ) (s : State) → Passes (Ask.Load object field to) s
+        → Done (M .step (Ask.Load object field to) s) (RootChanged s to (at (s .heap) (fieldAt s object field)))
+    pub store : (object field from : ℕ) (s : State) → Passes (Ask.Store object field from) s
+        → Done (M .step (Ask.Store object field from) s) (WordChanged s (fieldAt s object field) (rootWord s from))
     -- raw read and raw write: the same for an untraced object and a plain number
-    pub rawRead : (r f : ℕ) (s : State) → Passes (Ask.RawRead r f) s
-        → M .step (Ask.RawRead r f) s .answer ≡ Says.Number (at (s .heap) (fieldAt s r f))
-    pub rawReadLeaves : (r f : ℕ) (s : State) → Passes (Ask.RawRead r f) s → Leaves (M .step (Ask.RawRead r f) s) s
-    pub rawWrite : (r f x : ℕ) (s : State) → Passes (Ask.RawWrite r f x) s
-        → Done (M .step (Ask.RawWrite r f x) s) (WordChanged s (fieldAt s r f) x)
+    pub rawRead : (object field : ℕ) (s : State) → Passes (Ask.RawRead object field) s
+        → M .step (Ask.RawRead object field) s .answer ≡ Says.Number (at (s .heap) (fieldAt s object field))
+    pub rawReadLeaves : (object field : ℕ) (s : State) → Passes (Ask.RawRead object field) s → Leaves (M .step (Ask.RawRead object field) s) s
+    pub rawWrite : (object field number : ℕ) (s : State) → Passes (Ask.RawWrite object field number) s
+        → Done (M .step (Ask.RawWrite object field number) s) (WordChanged s (fieldAt s object field) number)
     -- same: yes exactly when two roots hold equal words
-    pub sameYes : (r q : ℕ) (s : State) → Passes (Ask.Same r q) s
-        → (M .step (Ask.Same r q) s .answer ≡ Says.Yes) ↔ (rootWord s r ≡ rootWord s q)
-    pub sameNo : (r q : ℕ) (s : State) → Passes (Ask.Same r q) s
-        → (M .step (Ask.Same r q) s .answer ≡ Says.No) ↔ (rootWord s r ≡ rootWord s q → ⊥)
-    pub sameLeaves : (r q : ℕ) (s : State) → Passes (Ask.Same r q) s → Leaves (M .step (Ask.Same r q) s) s
+    pub sameYes : (one other : ℕ) (s : State) → Passes (Ask.Same one other) s
+        → (M .step (Ask.Same one other) s .answer ≡ Says.Yes) ↔ (rootWord s one ≡ rootWord s other)
+    pub sameNo : (one other : ℕ) (s : State) → Passes (Ask.Same one other) s
+        → (M .step (Ask.Same one other) s .answer ≡ Says.No) ↔ (rootWord s one ≡ rootWord s other → ⊥)
+    pub sameLeaves : (one other : ℕ) (s : State) → Passes (Ask.Same one other) s → Leaves (M .step (Ask.Same one other) s) s
     -- inspect: a root holds null, an integer with its value, or an object, traced or untraced, with its field count
-    pub inspectNull : (r : ℕ) (s : State) → Passes (Ask.Inspect r) s → rootWord s r ≡ 0
-        → M .step (Ask.Inspect r) s .answer ≡ Says.Null
-    pub inspectInteger : (r : ℕ) (s : State) → Passes (Ask.Inspect r) s → rootWord s r % 2 ≡ 1
-        → M .step (Ask.Inspect r) s .answer ≡ Says.Integer (untag (rootWord s r))
-    pub inspectObject : (r : ℕ) (s : State) → Passes (Ask.Inspect r) s → Names Y s (rootWord s r)
-        → M .step (Ask.Inspect r) s .answer
-        ≡ Says.Object (kind Y (s .heap) (index Y (rootWord s r))) (fieldCount Y (s .heap) (index Y (rootWord s r)))
-    pub inspectLeaves : (r : ℕ) (s : State) → Passes (Ask.Inspect r) s → Leaves (M .step (Ask.Inspect r) s) s
+    pub inspectNull : (root : ℕ) (s : State) → Passes (Ask.Inspect root) s → rootWord s root ≡ 0
+        → M .step (Ask.Inspect root) s .answer ≡ Says.Null
+    pub inspectInteger : (root : ℕ) (s : State) → Passes (Ask.Inspect root) s → rootWord s root % 2 ≡ 1
+        → M .step (Ask.Inspect root) s .answer ≡ Says.Integer (untag (rootWord s root))
+    pub inspectObject : (root : ℕ) (s : State) → Passes (Ask.Inspect root) s → Names Y s (rootWord s root)
+        → M .step (Ask.Inspect root) s .answer
+        ≡ Says.Object (kind Y (s .heap) (index Y (rootWord s root))) (fieldCount Y (s .heap) (index Y (rootWord s root)))
+    pub inspectLeaves : (root : ℕ) (s : State) → Passes (Ask.Inspect root) s → Leaves (M .step (Ask.Inspect root) s) s
 
   -- ---- no machine has a choice
 

@@ -21,7 +21,7 @@ use Rattle.model.specs.Words.{State, at}
 use Rattle.model.specs.Values.{isOdd, inRange, tag, untag}
 use Rattle.model.specs.Headers.{Layout, Lawful, tuple}
 use Rattle.model.specs.Objects.{index, fieldCount, fieldIndex}
-use Rattle.model.specs.Answers.{Outcome, outcome, told}
+use Rattle.model.specs.Answers.{Outcome, outcomeOf, told}
 use Rattle.model.specs.Changes.{rootWord}
 use Rattle.model.specs.Window.{window, shown, windowCount, windowWord}
 use Rattle.model.specs.Sessions.{Machine}
@@ -84,5 +84,5 @@ pub record ToldApart (M : Machine) : Type 0 where
 
 -- a promise is an equation `outcome .. ≡ o`: any two outcomes that it allows have equal answers, records, words and roots
 abbrev pub Settles : Type 0
-Settles = (o : Outcome State) (a b : Answered) (H H′ R R′ : List ℕ) → outcome a H R ≡ o → outcome b H′ R′ ≡ o
+Settles = (o : Outcome State) (a b : Answered) (H H′ R R′ : List ℕ) → outcomeOf a H R ≡ o → outcomeOf b H′ R′ ≡ o
     → (a ≡ b) × (H ≡ H′) × (R ≡ R′)

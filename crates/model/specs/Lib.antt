@@ -11,6 +11,7 @@ pub mod Soundness
 pub mod Collection
 pub mod During
 pub mod Answers
+pub mod Contracts
 pub mod Admission
 pub mod Changes
 pub mod Calls

@@ -82,16 +82,16 @@ module _ (Y : Layout) (s : State) where
 abbrev pub rootsNamed : Call → List ℕ
 rootsNamed Ask.Collect = []
 rootsNamed Ask.Check = []
-rootsNamed (Ask.Allocate k n r) = r ∷ []
-rootsNamed (Ask.SetInteger r v) = r ∷ []
-rootsNamed (Ask.SetNull r) = r ∷ []
+rootsNamed (Ask.Allocate kind fields to) = to ∷ []
+rootsNamed (Ask.SetInteger to value) = to ∷ []
+rootsNamed (Ask.SetNull to) = to ∷ []
 rootsNamed (Ask.Copy from to) = from ∷ to ∷ []
-rootsNamed (Ask.Load r f to) = r ∷ to ∷ []
-rootsNamed (Ask.Store r f from) = r ∷ from ∷ []
-rootsNamed (Ask.RawRead r f) = r ∷ []
-rootsNamed (Ask.RawWrite r f x) = r ∷ []
-rootsNamed (Ask.Same r q) = r ∷ q ∷ []
-rootsNamed (Ask.Inspect r) = r ∷ []
+rootsNamed (Ask.Load object field to) = object ∷ to ∷ []
+rootsNamed (Ask.Store object field from) = object ∷ from ∷ []
+rootsNamed (Ask.RawRead object field) = object ∷ []
+rootsNamed (Ask.RawWrite object field number) = object ∷ []
+rootsNamed (Ask.Same one other) = one ∷ other ∷ []
+rootsNamed (Ask.Inspect root) = root ∷ []
 
 -- fresh, which gives only the heap-length part of SHAPE
 abbrev pub freshRows : State → List Row
@@ -109,18 +109,18 @@ module _ (Y : Layout) where
   abbrev pub ownRows : Call → State → List Row
   ownRows Ask.Collect s = row Why.Damaged (Unsound Y s) ∷ []
   ownRows Ask.Check s = []
-  ownRows (Ask.Allocate k n r) s =
-      row Why.Count (maxFields < n) ∷ row Why.Damaged (CalledFor n s × Unsound Y s)
-      ∷ row Why.Room (CalledFor n s × CalledFor n (collected Y s)) ∷ []
-  ownRows (Ask.SetInteger r v) s = row Why.Range (OutOfRange v) ∷ []
-  ownRows (Ask.SetNull r) s = []
+  ownRows (Ask.Allocate kind fields to) s =
+      row Why.Count (maxFields < fields) ∷ row Why.Damaged (CalledFor fields s × Unsound Y s)
+      ∷ row Why.Room (CalledFor fields s × CalledFor fields (collected Y s)) ∷ []
+  ownRows (Ask.SetInteger to value) s = row Why.Range (OutOfRange value) ∷ []
+  ownRows (Ask.SetNull to) s = []
   ownRows (Ask.Copy from to) s = []
-  ownRows (Ask.Load r f to) s = fieldRows Traced r f s
-  ownRows (Ask.Store r f from) s = fieldRows Traced r f s
-  ownRows (Ask.RawRead r f) s = fieldRows Untraced r f s
-  ownRows (Ask.RawWrite r f x) s = fieldRows Untraced r f s
-  ownRows (Ask.Same r q) s = []
-  ownRows (Ask.Inspect r) s = row Why.Object (NoValue Y s r) ∷ []
+  ownRows (Ask.Load object field to) s = fieldRows Traced object field s
+  ownRows (Ask.Store object field from) s = fieldRows Traced object field s
+  ownRows (Ask.RawRead object field) s = fieldRows Untraced object field s
+  ownRows (Ask.RawWrite object field number) s = fieldRows Untraced object field s
+  ownRows (Ask.Same one other) s = []
+  ownRows (Ask.Inspect root) s = row Why.Object (NoValue Y s root) ∷ []
 
   abbrev pub rows : Call → State → List Row
   rows c s = admittedRows (rootsNamed c) s (ownRows c s)

@@ -13,16 +13,16 @@ use Rattle.model.specs.Calls.{fresh}
 unfoldable pub step : Layout → Call → State → Outcome State
 step Y Ask.Collect s = Calls.collect Y s
 step Y Ask.Check s = Calls.check Y s
-step Y (Ask.Allocate k n r) s = Calls.allocate Y k n r s
-step Y (Ask.SetInteger r v) s = Calls.setInteger r v s
-step Y (Ask.SetNull r) s = Calls.setNull r s
+step Y (Ask.Allocate kind fields to) s = Calls.allocate Y kind fields to s
+step Y (Ask.SetInteger to value) s = Calls.setInteger to value s
+step Y (Ask.SetNull to) s = Calls.setNull to s
 step Y (Ask.Copy from to) s = Calls.copy from to s
-step Y (Ask.Load r f to) s = Calls.load Y r f to s
-step Y (Ask.Store r f from) s = Calls.store Y r f from s
-step Y (Ask.RawRead r f) s = Calls.rawRead Y r f s
-step Y (Ask.RawWrite r f x) s = Calls.rawWrite Y r f x s
-step Y (Ask.Same r q) s = Calls.same r q s
-step Y (Ask.Inspect r) s = Calls.inspect Y r s
+step Y (Ask.Load object field to) s = Calls.load Y object field to s
+step Y (Ask.Store object field from) s = Calls.store Y object field from s
+step Y (Ask.RawRead object field) s = Calls.rawRead Y object field s
+step Y (Ask.RawWrite object field number) s = Calls.rawWrite Y object field number s
+step Y (Ask.Same one other) s = Calls.same one other s
+step Y (Ask.Inspect root) s = Calls.inspect Y root s
 
 -- what the demands are about: a way to start a heap and to answer a call. Each demand is stated of any machine, so that it
 -- can be held against a wrong one too, and proved of this library's, `machine`.

@@ -16,8 +16,8 @@ pub record State : Type 0 where
   pub roots : List ℕ
   pub «record» : Record
 
-abbrev pub lent : List ℕ → List ℕ → Record → State
-lent H R q = record { heap = H; roots = R; «record» = q }
+abbrev pub stateOf : List ℕ → List ℕ → Record → State
+stateOf H R q = record { heap = H; roots = R; «record» = q }
 
 -- the same with another heap, with other roots, with another record, with another half and free index
 abbrev pub withHeap : List ℕ → State → State
@@ -43,9 +43,12 @@ addressOf i = 4 * i
 abbrev pub indexOf : ℕ → ℕ
 indexOf a = a / 4
 
--- S
+-- S, of a heap's length and of a heap
+abbrev pub halfWordsOf : ℕ → ℕ
+halfWordsOf n = (n - 1) / 2
+
 abbrev pub halfWords : List ℕ → ℕ
-halfWords H = (length H - 1) / 2
+halfWords H = halfWordsOf (length H)
 
 abbrev pub other : Half → Half
 other A = B

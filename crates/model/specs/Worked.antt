@@ -13,7 +13,7 @@ use Rattle.model.specs.declared.Kind.the-variants.{Traced, Untraced}
 use Rattle.model.specs.declared.Call.{Call}
 use Rattle.model.specs.declared.Call.the-variants as Ask
 use Rattle.model.specs.declared.Told.{Told}
-use Rattle.model.specs.Words.{State, lent, withFree}
+use Rattle.model.specs.Words.{State, stateOf, withFree}
 use Rattle.model.specs.Values.{untag}
 use Rattle.model.specs.Headers.{tuple}
 use Rattle.model.specs.Shape.{badShapeOf}
@@ -92,7 +92,7 @@ holdsUntraced n = tells 0 3 n
 
 -- half A or B, the free index, the heap's words and the roots
 abbrev pub state : Half → ℕ → List ℕ → List ℕ → State
-state h f H R = withFree h f (lent H R freshRecord)
+state h f H R = withFree h f (stateOf H R freshRecord)
 
 -- four bytes in a word, low byte first
 abbrev pub bytes : ℕ → ℕ → ℕ → ℕ → ℕ

@@ -1,5 +1,5 @@
-// What the library's calls speak of: halves, indexes, addresses, the heap's record, objects' kinds, refusals, answers
-// and calls, in the forms that document 01 names, and the steps between the two units.
+// What the library's calls speak of: halves, indexes, addresses, the heap's record, objects' kinds, refusals,
+// answers and calls, in the forms that document 01 names, and the steps between the two units.
 ghost use mathlib.Core.Path.{_≡_};
 ghost use Prim.Native.Nat.{_≤_};
 ghost use Rattle.model.specs.Limits.{maxWords};
@@ -74,6 +74,13 @@ pub enum Answer {
 pub struct Answered {
     pub answer: Answer,
     pub record: Record,
+}
+
+// An answer with the record that goes with it.
+pub fn say(answer: Answer, record: Record) -> Answered
+    ensures { λ r. ⌜ r ≡ record { answer = answer; «record» = «record» } ⌝ }
+{
+    Answered { answer, record }
 }
 
 // An answer in document 01's numbers.

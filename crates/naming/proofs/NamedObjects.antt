@@ -10,7 +10,7 @@ use borrow.Author.Tests.{leb-true}
 use Rattle.model.specs.declared.Kind.{Kind}
 use Rattle.model.specs.declared.Record.{Record}
 use Rattle.model.specs.declared.Refusal.the-variants as Why
-use Rattle.model.specs.Words.{State, at, lent, firstWord, free}
+use Rattle.model.specs.Words.{State, at, stateOf, firstWord, free}
 use Rattle.model.specs.Values.{isAddress}
 use Rattle.model.specs.Headers.{Layout}
 use Rattle.model.specs.Objects.{index, size, kind, fieldCount, fieldIndex, names}
@@ -42,8 +42,8 @@ module _ (Y : Layout) where
       leb-true _ _
       (and-both (isAddress w && eqb (w % 4) 0 && leb (firstWord s) i && ltb i (free s) && Y .isHeader (at (s .heap) i)) _ h .1)
 
-  pub header-in : (H R : List ℕ) (q : Record) (w : ℕ) → FreeInHeap H q → names Y (lent H R q) w ≡ true → index Y w < length H
-  header-in H R q w g h = omega (arith, named-ends (lent H R q) w h)
+  pub header-in : (H R : List ℕ) (q : Record) (w : ℕ) → FreeInHeap H q → names Y (stateOf H R q) w ≡ true → index Y w < length H
+  header-in H R q w g h = omega (arith, named-ends (stateOf H R q) w h)
 
   -- the same where SHAPE was tested, of the index as the code has it
   pub header-below : (s : State) (w i : ℕ) → i ≡ index Y w → badShape s ≡ false → names Y s w ≡ true → i < length (s .heap)

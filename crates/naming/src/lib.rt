@@ -2,7 +2,7 @@
 ghost use mathlib.Core.Path.{_≡_};
 ghost use mathlib.Core.List.{List};
 ghost use Prim.Native.Nat.{ℕ};
-ghost use Rattle.model.specs.Words.{lent};
+ghost use Rattle.model.specs.Words.{stateOf};
 ghost use Rattle.model.specs.Headers as Layouts;
 ghost use Rattle.model.specs.Objects as Objects;
 ghost use Rattle.model.specs.Calls.{isOfKind};
@@ -13,13 +13,15 @@ use model::Kind;
 use model::Record;
 use model::Refusal;
 use words::shape::first_of;
+use words::shape::half_words;
 use words::tuple::Tuple;
 use words::tuple::is_address;
 
 // Whether a word names an object. It looks at the word there only once that lies in the used part.
 pub fn names(heap: &[u32], record: Record, word: u32) -> bool
     requires { ⌜ FreeInHeap (now heap) «record» ⌝ }
-    ensures { λ r. ⌜ ((R : List ℕ) → r ≡ Objects.names Layouts.tuple (lent (now (heap .entry)) R «record») word) ⌝ }
+    ensures { λ r. ⌜ ((R : List ℕ) → r
+        ≡ Objects.names Layouts.tuple (stateOf (now (heap .entry)) R «record») word) ⌝ }
 {
     if !is_address(word) {
         return false;
@@ -29,7 +31,7 @@ pub fn names(heap: &[u32], record: Record, word: u32) -> bool
     }
     let half = record.half;
     let free = record.free.0;
-    let first = first_of((heap.len() - 1) / 2, half).0;
+    let first = first_of(half_words(heap.len()), half).0;
     let at = Tuple::index_of(Address(word)).0;
     if at < first {
         return false;
@@ -64,7 +66,8 @@ fn is_of_kind(kind: Kind, header: u32) -> bool
 // The field of the object that a word names: OBJECT, KIND and FIELD in order.
 pub fn field_of(heap: &[u32], record: Record, word: u32, kind: Kind, field: usize) -> Field
     requires { ⌜ FreeInHeap (now heap) «record» ⌝ }
-    ensures { λ r. ⌜ ((R : List ℕ) → r ≡ fieldOf Layouts.tuple kind word field (lent (now (heap .entry)) R «record»)) ⌝ }
+    ensures { λ r. ⌜ ((R : List ℕ) → r
+        ≡ fieldOf Layouts.tuple kind word field (stateOf (now (heap .entry)) R «record»)) ⌝ }
 {
     if !names(heap, record, word) {
         return Field::Refused(Refusal::Object);

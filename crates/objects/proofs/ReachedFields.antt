@@ -17,7 +17,7 @@ use Rattle.model.specs.Words.{State, at}
 use Rattle.model.specs.Headers.{Layout}
 use Rattle.model.specs.Objects.{index, kind, fieldCount, fieldIndex, names}
 use Rattle.model.specs.Shape.{badShape}
-use Rattle.model.specs.Answers.{Outcome, says, outcome, refuse}
+use Rattle.model.specs.Answers.{Outcome, says, outcomeOf, refuse}
 use Rattle.model.specs.Changes.{noRoot, rootWord, withRoot, withWord}
 use Rattle.model.specs.Calls.{isOfKind, onField, load, store, rawRead, rawWrite}
 use Rattle.naming.specs.declared.Field.{Field}
@@ -25,8 +25,8 @@ use Rattle.naming.specs.declared.Field.the-variants.{At, Refused}
 use Rattle.naming.specs.Named.{fieldOf}
 use Rattle.objects.specs.Reached.{reached}
 use Rattle.naming.proofs.NamedObjects.{free-in-heap, named-ends}
-use Rattle.access.proofs.Refusing.{said}
-use Rattle.access.proofs.RootNumbers.{both-below}
+use Rattle.model.proofs.Refusing.{said}
+use Rattle.words.proofs.RootNumbers.{both-below}
 
 -- what a call comes to that does `next` with the index of its field
 unfoldable pub answered : Field → State → (ℕ → Outcome State) → Outcome State
@@ -49,7 +49,7 @@ pub same-number : {x y : ℕ} (s : State) → x ≡ y → says (Says.Number x) s
 same-number s e = ap (λ (x : ℕ). says (Says.Number x) s) e
 
 pub written : {r : Answered} {o : Outcome State} {y : ℕ} (s : State) (i x : ℕ) → r ≡ record { answer = Says.Done; «record» = s .«record» }
-    → says Says.Done (withWord s i y) ≡ o → x ≡ y → outcome r (set (s .heap) i x) (s .roots) ≡ o
+    → says Says.Done (withWord s i y) ≡ o → x ≡ y → outcomeOf r (set (s .heap) i x) (s .roots) ≡ o
 written s i x e f n = said _ _ e (ap (λ (x : ℕ). says Says.Done (withWord s i x)) n ∙ f)
 
 answered-refuse : (b : Bool) (k : Refusal) (x : Field) (s : State) (next : ℕ → Outcome State)

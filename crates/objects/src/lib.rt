@@ -1,24 +1,23 @@
-// The calls on one field of the object that a root names: load, store, raw read, raw write. Each looks at the object's
-// header and at that field, and at no other heap word.
+// The calls on one field of the object that a root names: load, store, raw read, raw write. Each looks at the
+// object's header and at that field, and at no other heap word.
 ghost use mathlib.Core.Path.{_≡_};
-ghost use Rattle.model.specs.Words.{lent};
 ghost use Rattle.model.specs.Headers as Layouts;
-ghost use Rattle.model.specs.Answers.{outcome};
+ghost use Rattle.model.specs.Contracts.{lent, outcome};
 ghost use Rattle.model.specs.Calls as Calls;
 ghost use Rattle.objects.specs.Reached.{reached};
-use access::answers::say;
-use access::root_numbers::no_root;
 use model::Answer;
 use model::Answered;
 use model::Kind;
 use model::Record;
 use model::Refusal;
+use model::say;
 use naming::Field;
 use naming::field_of;
 use words::shape::bad_shape;
+use words::shape::no_root;
 
-// What the four calls have in common: SHAPE, ROOT for the object's root and for the other that the call names, and then
-// the field. A call that names no other root names the object's twice.
+// What the four calls have in common: SHAPE, ROOT for the object's root and for the other that the call
+// names, and then the field. A call that names no other root names the object's twice.
 fn reach(
     heap: &[u32],
     roots: &[u32],
@@ -28,7 +27,7 @@ fn reach(
     field: usize,
     other: usize,
 ) -> Field
-    ensures { λ r. ⌜ r ≡ reached Layouts.tuple kind object field other (lent (now (heap .entry)) (now (roots .entry)) «record») ⌝ }
+    ensures { λ r. ⌜ r ≡ reached Layouts.tuple kind object field other (lent heap roots «record») ⌝ }
 {
     if bad_shape(heap.len(), roots.len(), record) {
         return Field::Refused(Refusal::Shape);
@@ -39,8 +38,8 @@ fn reach(
     field_of(heap, record, roots[object], kind, field)
 }
 
-// Root `to` gets the word in a field of a traced object: done, or SHAPE, ROOT, OBJECT, KIND or FIELD. Leaves the heap and
-// the record. It does not look at what the word is.
+// Root `to` gets the word in a field of a traced object: done, or SHAPE, ROOT, OBJECT, KIND or FIELD. Leaves
+// the heap and the record. It does not look at what the word is.
 pub fn load(
     heap: &[u32],
     roots: &mut [u32],
@@ -49,7 +48,8 @@ pub fn load(
     field: usize,
     to: usize,
 ) -> Answered
-    ensures { λ r. ⌜ outcome r (now (heap .entry)) (now (roots .exit)) ≡ Calls.load Layouts.tuple object field to (lent (now (heap .entry)) (now (roots .entry)) «record») ⌝ }
+    ensures { λ r. ⌜ outcome r heap roots
+        ≡ Calls.load Layouts.tuple object field to (lent heap roots «record») ⌝ }
 {
     let found = reach(heap, roots, record, Kind::Traced, object, field, to);
     match found {
@@ -62,8 +62,8 @@ pub fn load(
     }
 }
 
-// A field of a traced object gets root `from`'s word: done, or SHAPE, ROOT, OBJECT, KIND or FIELD. Leaves the roots, the
-// record and all other heap words. It does not look at what the word is.
+// A field of a traced object gets root `from`'s word: done, or SHAPE, ROOT, OBJECT, KIND or FIELD. Leaves the
+// roots, the record and all other heap words. It does not look at what the word is.
 pub fn store(
     heap: &mut [u32],
     roots: &[u32],
@@ -72,7 +72,8 @@ pub fn store(
     field: usize,
     from: usize,
 ) -> Answered
-    ensures { λ r. ⌜ outcome r (now (heap .exit)) (now (roots .entry)) ≡ Calls.store Layouts.tuple object field from (lent (now (heap .entry)) (now (roots .entry)) «record») ⌝ }
+    ensures { λ r. ⌜ outcome r heap roots
+        ≡ Calls.store Layouts.tuple object field from (lent heap roots «record») ⌝ }
 {
     let found = reach(heap, roots, record, Kind::Traced, object, field, from);
     match found {
@@ -93,7 +94,8 @@ pub fn raw_read(
     object: usize,
     field: usize,
 ) -> Answered
-    ensures { λ r. ⌜ outcome r (now (heap .entry)) (now (roots .entry)) ≡ Calls.rawRead Layouts.tuple object field (lent (now (heap .entry)) (now (roots .entry)) «record») ⌝ }
+    ensures { λ r. ⌜ outcome r heap roots
+        ≡ Calls.rawRead Layouts.tuple object field (lent heap roots «record») ⌝ }
 {
     let found = reach(heap, roots, record, Kind::Untraced, object, field, object);
     match found {
@@ -106,8 +108,8 @@ pub fn raw_read(
     }
 }
 
-// A field of an untraced object gets a raw word: done, or SHAPE, ROOT, OBJECT, KIND or FIELD. Leaves the roots, the record
-// and all other heap words.
+// A field of an untraced object gets a raw word: done, or SHAPE, ROOT, OBJECT, KIND or FIELD. Leaves the
+// roots, the record and all other heap words.
 pub fn raw_write(
     heap: &mut [u32],
     roots: &[u32],
@@ -116,7 +118,8 @@ pub fn raw_write(
     field: usize,
     number: u32,
 ) -> Answered
-    ensures { λ r. ⌜ outcome r (now (heap .exit)) (now (roots .entry)) ≡ Calls.rawWrite Layouts.tuple object field number (lent (now (heap .entry)) (now (roots .entry)) «record») ⌝ }
+    ensures { λ r. ⌜ outcome r heap roots
+        ≡ Calls.rawWrite Layouts.tuple object field number (lent heap roots «record») ⌝ }
 {
     let target = reach(heap, roots, record, Kind::Untraced, object, field, object);
     match target {

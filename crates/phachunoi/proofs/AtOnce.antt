@@ -9,7 +9,7 @@ use Rattle.model.specs.declared.Kind.{Kind}
 use Rattle.model.specs.declared.Record.{Record}
 use Rattle.model.specs.declared.Call.the-variants as Ask
 use Rattle.model.specs.declared.Answer.the-variants as Says
-use Rattle.model.specs.Words.{lent}
+use Rattle.model.specs.Words.{stateOf}
 use Rattle.model.specs.Headers.{tuple}
 use Rattle.model.specs.Answers.{says, told}
 use Rattle.model.specs.Calls.{allocate}
@@ -19,7 +19,7 @@ use Rattle.placing.specs.Placing.{atOnce}
 use Rattle.placing.proofs.PlacingLaws.{at-once-shaped}
 use Rattle.crossing.specs.declared.CRecord.{CRecord}
 use Rattle.crossing.specs.declared.CResult.{CResult}
-use Rattle.crossing.specs.Numbers.{given, called, result, noHalf, numbersOf}
+use Rattle.crossing.specs.Numbers.{givenOf, calledOf, resultOf, noHalf, numbersOf}
 use Rattle.crossing.specs.Crossing.{nowhere, taken, back, Narrow}
 use Rattle.crossing.proofs.ShapeFirst.{nowhere-bad}
 use Rattle.crossing.proofs.Crosses.{crosses, narrow}
@@ -31,7 +31,7 @@ back-there : (c : CRecord) (p : Record) → noHalf c ≡ false → numbersOf p �
 back-there c p e = rw e
 
 module _ {H′ R′ : List ℕ} {p q : Record} (c : CRecord) (H R : List ℕ) (k : Kind) (n r : ℕ) (e : q ≡ taken c)
-    (f : atOnce (length H) (length R) q n r ≡ true) (g : says Says.Done (lent H′ R′ p) ≡ allocate tuple k n r (lent H R q)) where
+    (f : atOnce (length H) (length R) q n r ≡ true) (g : says Says.Done (stateOf H′ R′ p) ≡ allocate tuple k n r (stateOf H R q)) where
   has-half : noHalf c ≡ false
   has-half = go (noHalf c) refl
     where
@@ -40,14 +40,14 @@ module _ {H′ R′ : List ℕ} {p q : Record} (c : CRecord) (H R : List ℕ) (k
 
       go : (b : Bool) → noHalf c ≡ b → noHalf c ≡ false
       go false z = z
-      go true z = never (nowhere-bad H R) (at-once-shaped tuple k n r (lent H R nowhere) (fitted-nowhere z))
+      go true z = never (nowhere-bad H R) (at-once-shaped tuple k n r (stateOf H R nowhere) (fitted-nowhere z))
 
-  pub at-once-crosses : {a : CResult} → a ≡ result (told Says.Done) (numbersOf p)
-      → given a H′ R′ ≡ called result (allocate tuple k n r) H R c
+  pub at-once-crosses : {a : CResult} → a ≡ resultOf (told Says.Done) (numbersOf p)
+      → givenOf a H′ R′ ≡ calledOf resultOf (allocate tuple k n r) H R c
   unfolding step
   at-once-crosses h =
-      crosses result c {o = record { answer = Says.Done; «record» = p }} H R (Ask.Allocate k n r) e g
-      (h ∙ ap (result (told Says.Done)) (back-there c p has-half))
+      crosses resultOf c {o = record { answer = Says.Done; «record» = p }} H R (Ask.Allocate k n r) e g
+      (h ∙ ap (resultOf (told Says.Done)) (back-there c p has-half))
 
   pub at-once-narrow : Narrow (c .free) → Narrow (p .free .0)
   unfolding step

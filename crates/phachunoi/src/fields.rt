@@ -1,16 +1,16 @@
-// The calls on a field of the object that a root names: load, store, raw read, raw write. No object moves. Each may
-// refuse with SHAPE, ROOT, OBJECT, KIND or FIELD.
+// The calls on a field of the object that a root names: load, store, raw read, raw write. No object moves.
+// Each may refuse with SHAPE, ROOT, OBJECT, KIND or FIELD.
 ghost use mathlib.Core.Path.{_≡_};
 ghost use Rattle.model.specs.Headers as Layouts;
 ghost use Rattle.model.specs.Calls as Calls;
 ghost use Rattle.crossing.specs.Numbers as Numbers;
-ghost use Rattle.crossing.specs.Numbers.{given, called};
+ghost use Rattle.crossing.specs.Exports.{given, called};
 use crossing::CAnswer;
 use crossing::CRecord;
 use crossing::CResult;
-use crossing::answer;
+use crossing::answer_of;
 use crossing::record_of;
-use crossing::result;
+use crossing::result_of;
 
 // Root `to` gets the word in a field of a traced object.
 #[no_mangle]
@@ -22,10 +22,11 @@ pub extern "C" fn phachunoi_load(
     field: usize,
     to: usize,
 ) -> CResult
-    ensures { λ r. ⌜ given r (now (heap .entry)) (now (roots .exit)) ≡ called Numbers.result (Calls.load Layouts.tuple object field to) (now (heap .entry)) (now (roots .entry)) «record» ⌝ }
+    ensures { λ r. ⌜ given r heap roots
+        ≡ called Numbers.resultOf (Calls.load Layouts.tuple object field to) heap roots «record» ⌝ }
 {
     let done = objects::load(heap, roots, record_of(record), object, field, to);
-    result(record, done)
+    result_of(record, done)
 }
 
 // A field of a traced object gets root `from`'s word.
@@ -38,10 +39,11 @@ pub extern "C" fn phachunoi_store(
     field: usize,
     from: usize,
 ) -> CResult
-    ensures { λ r. ⌜ given r (now (heap .exit)) (now (roots .entry)) ≡ called Numbers.result (Calls.store Layouts.tuple object field from) (now (heap .entry)) (now (roots .entry)) «record» ⌝ }
+    ensures { λ r. ⌜ given r heap roots
+        ≡ called Numbers.resultOf (Calls.store Layouts.tuple object field from) heap roots «record» ⌝ }
 {
     let done = objects::store(heap, roots, record_of(record), object, field, from);
-    result(record, done)
+    result_of(record, done)
 }
 
 // The raw word in a field of an untraced object.
@@ -53,11 +55,13 @@ pub extern "C" fn phachunoi_raw_read(
     object: usize,
     field: usize,
 ) -> CAnswer
-    ensures { λ r. ⌜ given r (now (heap .entry)) (now (roots .entry)) ≡ called (λ t c. Numbers.answer t) (Calls.rawRead Layouts.tuple object field) (now (heap .entry)) (now (roots .entry)) «record» ⌝ }
+    ensures { λ r. ⌜ given r heap roots
+        ≡ called (λ t c. Numbers.answerOf t)
+        (Calls.rawRead Layouts.tuple object field) heap roots «record» ⌝ }
 {
     let done = objects::raw_read(heap, roots, record_of(record), object, field);
     let said = done.answer;
-    answer(said)
+    answer_of(said)
 }
 
 // A field of an untraced object gets a raw word.
@@ -70,8 +74,9 @@ pub extern "C" fn phachunoi_raw_write(
     field: usize,
     number: u32,
 ) -> CResult
-    ensures { λ r. ⌜ given r (now (heap .exit)) (now (roots .entry)) ≡ called Numbers.result (Calls.rawWrite Layouts.tuple object field number) (now (heap .entry)) (now (roots .entry)) «record» ⌝ }
+    ensures { λ r. ⌜ given r heap roots
+        ≡ called Numbers.resultOf (Calls.rawWrite Layouts.tuple object field number) heap roots «record» ⌝ }
 {
     let done = objects::raw_write(heap, roots, record_of(record), object, field, number);
-    result(record, done)
+    result_of(record, done)
 }

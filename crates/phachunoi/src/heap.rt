@@ -5,34 +5,38 @@ ghost use Rattle.model.specs.declared.Kind.the-variants.{Traced, Untraced};
 ghost use Rattle.model.specs.Headers as Layouts;
 ghost use Rattle.model.specs.Calls as Calls;
 ghost use Rattle.crossing.specs.Numbers as Numbers;
-ghost use Rattle.crossing.specs.Numbers.{given, called, begun};
+ghost use Rattle.crossing.specs.Numbers.{givenOf, begun};
+ghost use Rattle.crossing.specs.Exports.{given, called};
 use crossing::CCollected;
 use crossing::CRecord;
 use crossing::CResult;
-use crossing::collected;
+use crossing::collected_of;
 use crossing::done_with;
-use crossing::fresh_result;
+use crossing::fresh_result_of;
 use crossing::record_of;
-use crossing::result;
+use crossing::result_of;
 use model::Kind;
 
-// Clears all heap words; half A, free index 1. SHAPE is of the heap's length alone, and hands the record back as it came.
+// Clears all heap words; half A, free index 1. SHAPE is of the heap's length alone, and hands the record back
+// as it came.
 #[no_mangle]
 pub extern "C" fn phachunoi_fresh(heap: &mut [u32], record: CRecord) -> CResult
-    ensures { λ r. ⌜ given r (now (heap .exit)) [] ≡ begun (now (heap .entry)) «record» ⌝ }
+    ensures { λ r. ⌜ givenOf r (now (heap .exit)) [] ≡ begun (now (heap .entry)) «record» ⌝ }
 {
     let roots: [u32; 0] = [];
-    let done = access::fresh::fresh(heap, &roots, record_of(record));
-    fresh_result(record, done)
+    let done = blind::fresh(heap, &roots, record_of(record));
+    fresh_result_of(record, done)
 }
 
-// Value 1 where the heap is sound, 0 where not; or SHAPE. It marks in the idle half, and no word differs afterwards.
+// Value 1 where the heap is sound, 0 where not; or SHAPE. It marks in the idle half, and no word differs
+// afterwards.
 #[no_mangle]
 pub extern "C" fn phachunoi_check(heap: &mut [u32], roots: &[u32], record: CRecord) -> CResult
-    ensures { λ r. ⌜ given r (now (heap .exit)) (now (roots .entry)) ≡ called Numbers.result (Calls.check Layouts.tuple) (now (heap .entry)) (now (roots .entry)) «record» ⌝ }
+    ensures { λ r. ⌜ given r heap roots
+        ≡ called Numbers.resultOf (Calls.check Layouts.tuple) heap roots «record» ⌝ }
 {
     let done = checker::check(heap, roots, record_of(record));
-    result(record, done)
+    result_of(record, done)
 }
 
 // The live words; or SHAPE or DAMAGED. Every object may move.
@@ -42,14 +46,15 @@ pub extern "C" fn phachunoi_collect(
     roots: &mut [u32],
     record: CRecord,
 ) -> CCollected
-    ensures { λ r. ⌜ given r (now (heap .exit)) (now (roots .exit)) ≡ called Numbers.collected (Calls.collect Layouts.tuple) (now (heap .entry)) (now (roots .entry)) «record» ⌝ }
+    ensures { λ r. ⌜ given r heap roots
+        ≡ called Numbers.collectedOf (Calls.collect Layouts.tuple) heap roots «record» ⌝ }
 {
     let done = collector::collect(heap, roots, record_of(record));
-    collected(record, done)
+    collected_of(record, done)
 }
 
-// Root `to` gets a new object of values, all null; or SHAPE, ROOT, COUNT, DAMAGED or ROOM. Every object may move. Where the
-// object fits, that is found and done here, with no answer in memory.
+// Root `to` gets a new object of values, all null; or SHAPE, ROOT, COUNT, DAMAGED or ROOM. Every object may
+// move. Where the object fits, that is found and done here, with no answer in memory.
 #[no_mangle]
 pub extern "C" fn phachunoi_allocate_traced(
     heap: &mut [u32],
@@ -58,14 +63,15 @@ pub extern "C" fn phachunoi_allocate_traced(
     fields: usize,
     to: usize,
 ) -> CResult
-    ensures { λ r. ⌜ given r (now (heap .exit)) (now (roots .exit)) ≡ called Numbers.result (Calls.allocate Layouts.tuple Traced fields to) (now (heap .entry)) (now (roots .entry)) «record» ⌝ }
+    ensures { λ r. ⌜ given r heap roots
+        ≡ called Numbers.resultOf (Calls.allocate Layouts.tuple Traced fields to) heap roots «record» ⌝ }
 {
-    let now = record_of(record);
-    if placing::at_once::fits(heap.len(), roots.len(), now, fields, to) {
-        return done_with(placing::at_once::allocate(heap, roots, now, Kind::Traced, fields, to));
+    let taken = record_of(record);
+    if placing::at_once::fits(heap.len(), roots.len(), taken, fields, to) {
+        return done_with(placing::at_once::allocate(heap, roots, taken, Kind::Traced, fields, to));
     }
     let done = allocator::allocate(heap, roots, record_of(record), Kind::Traced, fields, to);
-    result(record, done)
+    result_of(record, done)
 }
 
 // The same of an object of raw words, all 0.
@@ -77,12 +83,20 @@ pub extern "C" fn phachunoi_allocate_untraced(
     fields: usize,
     to: usize,
 ) -> CResult
-    ensures { λ r. ⌜ given r (now (heap .exit)) (now (roots .exit)) ≡ called Numbers.result (Calls.allocate Layouts.tuple Untraced fields to) (now (heap .entry)) (now (roots .entry)) «record» ⌝ }
+    ensures { λ r. ⌜ given r heap roots
+        ≡ called Numbers.resultOf (Calls.allocate Layouts.tuple Untraced fields to) heap roots «record» ⌝ }
 {
-    let now = record_of(record);
-    if placing::at_once::fits(heap.len(), roots.len(), now, fields, to) {
-        return done_with(placing::at_once::allocate(heap, roots, now, Kind::Untraced, fields, to));
+    let taken = record_of(record);
+    if placing::at_once::fits(heap.len(), roots.len(), taken, fields, to) {
+        return done_with(placing::at_once::allocate(
+            heap,
+            roots,
+            taken,
+            Kind::Untraced,
+            fields,
+            to,
+        ));
     }
     let done = allocator::allocate(heap, roots, record_of(record), Kind::Untraced, fields, to);
-    result(record, done)
+    result_of(record, done)
 }

@@ -1,5 +1,6 @@
-// The library for C: every call in slices and numbers. No call has a `requires`; each answers for all numbers that it is
-// given, and its promise is one equation to the call's definition in `model`, by the numbers of `crossing`.
+// The library for C: every call in slices and numbers. No call has a `requires`; each answers for all numbers
+// that it is given, and its promise is one equation to the call's definition in `model`, by the numbers of
+// `crossing`.
 ghost use mathlib.Core.Path.{_≡_};
 ghost use Rattle.crossing.specs.Numbers as Numbers;
 

@@ -3,15 +3,15 @@ ghost use mathlib.Core.Path.{_≡_};
 ghost use Rattle.model.specs.Headers as Layouts;
 ghost use Rattle.model.specs.Calls as Calls;
 ghost use Rattle.crossing.specs.Numbers as Numbers;
-ghost use Rattle.crossing.specs.Numbers.{given, called};
+ghost use Rattle.crossing.specs.Exports.{given, called};
 use crossing::CAnswer;
 use crossing::CRecord;
 use crossing::CResult;
 use crossing::CSeen;
-use crossing::answer;
+use crossing::answer_of;
 use crossing::record_of;
-use crossing::result;
-use crossing::seen;
+use crossing::result_of;
+use crossing::seen_of;
 
 // Root `to` gets an integer; or SHAPE, ROOT or RANGE.
 #[no_mangle]
@@ -22,10 +22,11 @@ pub extern "C" fn phachunoi_set_integer(
     to: usize,
     value: i64,
 ) -> CResult
-    ensures { λ r. ⌜ given r (now (heap .entry)) (now (roots .exit)) ≡ called Numbers.result (Calls.setInteger to value) (now (heap .entry)) (now (roots .entry)) «record» ⌝ }
+    ensures { λ r. ⌜ given r heap roots
+        ≡ called Numbers.resultOf (Calls.setInteger to value) heap roots «record» ⌝ }
 {
-    let done = integers::set_integer::set_integer(heap, roots, record_of(record), to, value);
-    result(record, done)
+    let done = blind::set_integer(heap, roots, record_of(record), to, value);
+    result_of(record, done)
 }
 
 // Root `to` gets null; or SHAPE or ROOT.
@@ -36,10 +37,10 @@ pub extern "C" fn phachunoi_set_null(
     record: CRecord,
     to: usize,
 ) -> CResult
-    ensures { λ r. ⌜ given r (now (heap .entry)) (now (roots .exit)) ≡ called Numbers.result (Calls.setNull to) (now (heap .entry)) (now (roots .entry)) «record» ⌝ }
+    ensures { λ r. ⌜ given r heap roots ≡ called Numbers.resultOf (Calls.setNull to) heap roots «record» ⌝ }
 {
-    let done = access::roots::set_null(heap, roots, record_of(record), to);
-    result(record, done)
+    let done = blind::set_null(heap, roots, record_of(record), to);
+    result_of(record, done)
 }
 
 // Root `to` gets root `from`'s word; or SHAPE or ROOT.
@@ -51,10 +52,10 @@ pub extern "C" fn phachunoi_copy(
     from: usize,
     to: usize,
 ) -> CResult
-    ensures { λ r. ⌜ given r (now (heap .entry)) (now (roots .exit)) ≡ called Numbers.result (Calls.copy from to) (now (heap .entry)) (now (roots .entry)) «record» ⌝ }
+    ensures { λ r. ⌜ given r heap roots ≡ called Numbers.resultOf (Calls.copy from to) heap roots «record» ⌝ }
 {
-    let done = access::roots::copy(heap, roots, record_of(record), from, to);
-    result(record, done)
+    let done = blind::copy(heap, roots, record_of(record), from, to);
+    result_of(record, done)
 }
 
 // Value 1 where two roots hold equal words, 0 where not; or SHAPE or ROOT.
@@ -66,11 +67,12 @@ pub extern "C" fn phachunoi_same(
     one: usize,
     other: usize,
 ) -> CAnswer
-    ensures { λ r. ⌜ given r (now (heap .entry)) (now (roots .entry)) ≡ called (λ t c. Numbers.answer t) (Calls.same one other) (now (heap .entry)) (now (roots .entry)) «record» ⌝ }
+    ensures { λ r. ⌜ given r heap roots
+        ≡ called (λ t c. Numbers.answerOf t) (Calls.same one other) heap roots «record» ⌝ }
 {
-    let done = access::roots::same(heap, roots, record_of(record), one, other);
+    let done = blind::same(heap, roots, record_of(record), one, other);
     let said = done.answer;
-    answer(said)
+    answer_of(said)
 }
 
 // What a root holds; or SHAPE, ROOT or OBJECT.
@@ -81,9 +83,10 @@ pub extern "C" fn phachunoi_inspect(
     record: CRecord,
     root: usize,
 ) -> CSeen
-    ensures { λ r. ⌜ given r (now (heap .entry)) (now (roots .entry)) ≡ called (λ t c. Numbers.seen t) (Calls.inspect Layouts.tuple root) (now (heap .entry)) (now (roots .entry)) «record» ⌝ }
+    ensures { λ r. ⌜ given r heap roots
+        ≡ called (λ t c. Numbers.seenOf t) (Calls.inspect Layouts.tuple root) heap roots «record» ⌝ }
 {
-    let done = views::inspect::inspect(heap, roots, record_of(record), root);
+    let done = views::inspect(heap, roots, record_of(record), root);
     let said = done.answer;
-    seen(said)
+    seen_of(said)
 }

@@ -1,5 +1,5 @@
 -- A new object placed, and an allocation that is done at once: what each asks and leaves. Assumes nothing.
-use Prim.Native.Nat.{ℕ, _+_, _-_, _/_, _≤_, _<_}
+use Prim.Native.Nat.{ℕ, _+_, _-_, _≤_, _<_}
 use native.Mathlib.Numerals.{add-one}
 use native.Mathlib.Omega.{arith}
 use mathlib.Core.Path.{_≡_, refl}
@@ -12,7 +12,7 @@ use Rattle.model.specs.declared.Kind.{Kind}
 use Rattle.model.specs.declared.Answer.the-variants as Says
 use Rattle.model.specs.declared.Record.{Record}
 use Rattle.model.specs.Limits.{maxRoots, maxFields}
-use Rattle.model.specs.Words.{State, lent, firstOf, free}
+use Rattle.model.specs.Words.{State, stateOf, halfWordsOf, firstOf, free}
 use Rattle.model.specs.Headers.{Layout}
 use Rattle.model.specs.Shape.{badLength, badShapeOf, badShape}
 use Rattle.model.specs.Objects.{address}
@@ -29,7 +29,7 @@ use Rattle.placing.specs.Placing.{MayPlace, MaySpare, spareOf, atOnce}
 
 module _ (Y : Layout) (s : State) (k : Kind) (n r : ℕ) where
   placed-is : placed Y k n r s
-      ≡ lent (cleared (set (s .heap) (free s) (Y .header k n)) (free s + 1) n) (set (s .roots) r (address Y (free s)))
+      ≡ stateOf (cleared (set (s .heap) (free s) (Y .header k n)) (free s + 1) n) (set (s .roots) r (address Y (free s)))
       (record { half = s .«record» .half; free = record { 0 = free s + (n + 1) } })
   unfolding placed
   placed-is = rw (cleared-sets, add-one (free s))
@@ -37,7 +37,7 @@ module _ (Y : Layout) (s : State) (k : Kind) (n r : ℕ) where
   -- from what each call answers
   pub placed-by : (header a : ℕ) (h₁ : List ℕ) → header ≡ Y .header k n → h₁ ≡ cleared (set (s .heap) (free s) header) (free s + 1) n
       → a ≡ address Y (free s)
-      → lent h₁ (set (s .roots) r a) (record { half = s .«record» .half; free = record { 0 = free s + (n + 1) } }) ≡ placed Y k n r s
+      → stateOf h₁ (set (s .roots) r a) (record { half = s .«record» .half; free = record { 0 = free s + (n + 1) } }) ≡ placed Y k n r s
   placed-by header a h₁ e f g = rw (placed-is, f, e, g)
 
 -- what its callers have: a shape that is not refused, and room
@@ -60,14 +60,14 @@ allocate-now Y k n r s b l c f = rw (b, lt-leb (length (s .roots)) r l, le-ltb m
 -- ---- at once
 
 -- of the numbers alone
-pub numbers-spare : (words roots : ℕ) (q : Record) → badShapeOf words roots q ≡ false → MaySpare words q
+pub numbers-spare : (n roots : ℕ) (q : Record) → badShapeOf n roots q ≡ false → MaySpare n q
 unfolding badShapeOf
-numbers-spare words roots q h =
-    let S = (words - 1) / 2 in
+numbers-spare n roots q h =
+    let S = halfWordsOf n in
     let a = or-none _ (ltb (firstOf S (q .half) + S) (q .free .0)) h in
     let b = or-none _ (ltb (q .free .0) (firstOf S (q .half))) (a .0) in
-    let c = or-none (badLength words) (ltb maxRoots roots) (b .0) in
-    let g = good-length words (c .0) in
+    let c = or-none (badLength n) (ltb maxRoots roots) (b .0) in
+    let g = good-length n (c .0) in
     record { some = omega (arith, g .odd); few = omega (arith, g .odd, g .most); high = ltb-false _ _ (a .1) }
 
 -- a test that must fail before another holds

@@ -1,11 +1,11 @@
-// An allocation that is done at once: nothing refuses it, and its words are free. Nearly every allocation is one, so that a
-// boundary to another language asks this first, of numbers that are still in registers.
+// An allocation that is done at once: nothing refuses it, and its words are free. Nearly every allocation is
+// one, so that a boundary to another language asks this first, of numbers that are still in registers.
 ghost use mathlib.Core.Path.{_≡_};
 ghost use mathlib.Core.Bool.{true};
 ghost use lib.ListN.{length};
-ghost use Rattle.model.specs.Words.{lent};
 ghost use Rattle.model.specs.Headers as Layouts;
 ghost use Rattle.model.specs.Answers.{says};
+ghost use Rattle.model.specs.Contracts.{lent, leaves};
 ghost use Rattle.model.specs.declared.Answer.the-variants as Says;
 ghost use Rattle.model.specs.Calls as Calls;
 ghost use Rattle.placing.specs.Placing.{atOnce};
@@ -15,16 +15,16 @@ use model::Kind;
 use model::Record;
 
 // Whether an allocation is such. It looks at no word.
-pub fn fits(words: usize, roots: usize, record: Record, fields: usize, to: usize) -> bool
-    ensures { λ r. ⌜ r ≡ atOnce words roots «record» fields to ⌝ }
+pub fn fits(length: usize, root_count: usize, record: Record, fields: usize, to: usize) -> bool
+    ensures { λ r. ⌜ r ≡ atOnce length «root_count» «record» fields to ⌝ }
 {
-    if words::shape::bad_shape(words, roots, record) {
+    if words::shape::bad_shape(length, root_count, record) {
         return false;
     }
-    if roots <= to {
+    if root_count <= to {
         return false;
     }
-    fields < spare_of(words, record)
+    fields < spare_of(length, record)
 }
 
 // Such an allocation: done. Answers the new record.
@@ -37,7 +37,8 @@ pub fn allocate(
     to: usize,
 ) -> Record
     requires { ⌜ atOnce (length (now heap)) (length (now roots)) «record» fields to ≡ true ⌝ }
-    ensures { λ r. ⌜ says Says.Done (lent (now (heap .exit)) (now (roots .exit)) r) ≡ Calls.allocate Layouts.tuple kind fields to (lent (now (heap .entry)) (now (roots .entry)) «record») ⌝ }
+    ensures { λ r. ⌜ says Says.Done (leaves heap roots r)
+        ≡ Calls.allocate Layouts.tuple kind fields to (lent heap roots «record») ⌝ }
 {
     place(heap, roots, record, kind, fields, to)
 }

@@ -1,8 +1,9 @@
 // A new object at the free index, and whether one fits.
 ghost use mathlib.Core.Path.{_≡_};
-ghost use Rattle.model.specs.Words.{lent};
+ghost use Rattle.model.specs.Words.{stateOf};
 ghost use Rattle.model.specs.Headers as Layouts;
 ghost use Rattle.model.specs.Changes.{placed};
+ghost use Rattle.model.specs.Contracts.{lent, leaves};
 ghost use Rattle.placing.specs.Placing.{MayPlace, MaySpare, spareOf};
 
 pub mod at_once;
@@ -10,21 +11,23 @@ pub mod at_once;
 use model::Index;
 use model::Kind;
 use model::Record;
+use words::shape;
 use words::tuple::Tuple;
 
 // The free words of the current half.
-pub fn spare_of(words: usize, record: Record) -> usize
-    requires { ⌜ MaySpare words «record» ⌝ }
-    ensures { λ r. ⌜ r ≡ spareOf words «record» ⌝ }
+pub fn spare_of(length: usize, record: Record) -> usize
+    requires { ⌜ MaySpare length «record» ⌝ }
+    ensures { λ r. ⌜ r ≡ spareOf length «record» ⌝ }
 {
     let half = record.half;
     let free = record.free.0;
-    let size = (words - 1) / 2;
-    let first = words::shape::first_of(size, half).0;
-    first + size - free
+    let half_words = shape::half_words(length);
+    let first = shape::first_of(half_words, half).0;
+    first + half_words - free
 }
 
-// Writes the header and the zeros at the free index, and the object's address into root `to`. Answers the new record.
+// Writes the header and the zeros at the free index, and the object's address into root `to`. Answers the new
+// record.
 pub fn place(
     heap: &mut [u32],
     roots: &mut [u32],
@@ -33,8 +36,8 @@ pub fn place(
     fields: usize,
     to: usize,
 ) -> Record
-    requires { ⌜ MayPlace (lent (now heap) (now roots) «record») fields to ⌝ }
-    ensures { λ r. ⌜ lent (now (heap .exit)) (now (roots .exit)) r ≡ placed Layouts.tuple kind fields to (lent (now (heap .entry)) (now (roots .entry)) «record») ⌝ }
+    requires { ⌜ MayPlace (stateOf (now heap) (now roots) «record») fields to ⌝ }
+    ensures { λ r. ⌜ leaves heap roots r ≡ placed Layouts.tuple kind fields to (lent heap roots «record») ⌝ }
 {
     let half = record.half;
     let free = record.free;

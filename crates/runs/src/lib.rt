@@ -1,4 +1,5 @@
-// Runs of words inside one lent slice: cleared, copied, tested for 0. Few words are done straight, since most objects are small.
+// Runs of words inside one lent slice: cleared, copied, tested for 0. Few words are done straight, since most
+// objects are small.
 ghost use mathlib.Core.Path.{_≡_};
 ghost use Prim.Native.Nat.{_+_, _≤_};
 ghost use lib.Dec.{eqb};
@@ -97,7 +98,8 @@ pub fn copy(heap: &mut [u32], from: usize, to: usize, n: usize)
     copy_run(heap, from, to, n);
 }
 
-// The bits that any of n words has. There is no way out of the loop, so that it takes several words at a time.
+// The bits that any of n words has. There is no way out of the loop, so that it takes several words at a
+// time.
 fn bits(heap: &[u32], from: usize, n: usize) -> u32
     requires { ⌜ from + n ≤ length (now heap) ⌝ }
     ensures { λ r. ⌜ eqb r 0 ≡ all isNull (run (now (heap .entry)) from n) ⌝ }

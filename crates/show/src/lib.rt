@@ -63,11 +63,11 @@ pub fn told(told: Told) {
 }
 
 // Each word behind a space.
-pub fn words(words: &[u32]) {
+pub fn run(run: &[u32]) {
     let mut i: usize = 0;
-    while i < words.len() {
+    while i < run.len() {
         text(b" ");
-        word(words[i]);
+        word(run[i]);
         i += 1;
     }
 }

@@ -1,8 +1,8 @@
 // The place of a window: the covered function below the struct that holds on to the lent words.
 ghost use mathlib.Core.Path.{_≡_};
-ghost use Rattle.model.specs.Words.{lent};
 ghost use Rattle.model.specs.Headers as Layouts;
 ghost use Rattle.model.specs.Window.{window};
+ghost use Rattle.model.specs.Contracts.{lent};
 use model::Address;
 use model::Index;
 use model::Place;
@@ -12,10 +12,10 @@ use naming::names;
 use words::shape::bad_shape;
 use words::tuple::Tuple;
 
-// Where the object that a root names stands, of either kind, with its field count; or SHAPE, ROOT or OBJECT. It looks at
-// the header, and at no field.
+// Where the object that a root names stands, of either kind, with its field count; or SHAPE, ROOT or OBJECT.
+// It looks at the header, and at no field.
 pub fn find(heap: &[u32], roots: &[u32], record: Record, object: usize) -> Place
-    ensures { λ r. ⌜ r ≡ window Layouts.tuple object (lent (now (heap .entry)) (now (roots .entry)) «record») ⌝ }
+    ensures { λ r. ⌜ r ≡ window Layouts.tuple object (lent heap roots «record») ⌝ }
 {
     if bad_shape(heap.len(), roots.len(), record) {
         return Place::Refused(Refusal::Shape);

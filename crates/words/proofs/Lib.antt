@@ -1,1 +1,3 @@
+pub mod FirstWords
+pub mod RootNumbers
 pub mod TupleLaws

@@ -1,8 +1,11 @@
-// The limits of document 01, the halves of a heap, and SHAPE. Nothing here looks at a heap word.
+// The limits of document 01, the halves of a heap, and the tests behind SHAPE and ROOT. Nothing here looks at
+// a heap word.
 ghost use mathlib.Core.Path.{_≡_};
+ghost use mathlib.Core.Bool.{_||_};
 ghost use Prim.Native.Nat.{_≤_};
+ghost use lib.Dec.{leb};
 ghost use Rattle.model.specs.Limits.{maxHalf};
-ghost use Rattle.model.specs.Words.{other, firstOf};
+ghost use Rattle.model.specs.Words.{halfWordsOf, other, firstOf};
 ghost use Rattle.model.specs.Shape.{badLength, badShapeOf};
 use model::Half;
 use model::Index;
@@ -23,46 +26,64 @@ pub fn other_half(half: Half) -> Half
     }
 }
 
-// The first word of a half of `words` words.
-pub fn first_of(words: usize, half: Half) -> Index
-    requires { ⌜ words ≤ maxHalf ⌝ }
-    ensures { λ r. ⌜ r .0 ≡ firstOf words half ⌝ }
+// S: the words of a half, in a heap of a good length.
+pub fn half_words(length: usize) -> usize
+    requires { ⌜ 1 ≤ length ⌝ }
+    ensures { λ r. ⌜ r ≡ halfWordsOf length ⌝ }
+{
+    (length - 1) / 2
+}
+
+// The first word of a half of `half_words` words.
+pub fn first_of(half_words: usize, half: Half) -> Index
+    requires { ⌜ «half_words» ≤ maxHalf ⌝ }
+    ensures { λ r. ⌜ r .0 ≡ firstOf «half_words» half ⌝ }
 {
     match half {
         Half::A => Index(1),
-        Half::B => Index(words + 1),
+        Half::B => Index(half_words + 1),
     }
 }
 
 // The part of SHAPE that fresh gives.
-pub fn bad_length(words: usize) -> bool
-    ensures { λ r. ⌜ r ≡ badLength words ⌝ }
+pub fn bad_length(length: usize) -> bool
+    ensures { λ r. ⌜ r ≡ badLength length ⌝ }
 {
-    if words % 2 == 0 {
+    if length % 2 == 0 {
         return true;
     }
-    if words < 3 {
+    if length < 3 {
         return true;
     }
-    MAX_WORDS < words
+    MAX_WORDS < length
 }
 
 // SHAPE. The halves mean nothing before the length is known to be good.
-pub fn bad_shape(words: usize, roots: usize, record: Record) -> bool
-    ensures { λ r. ⌜ r ≡ badShapeOf words roots «record» ⌝ }
+pub fn bad_shape(length: usize, root_count: usize, record: Record) -> bool
+    ensures { λ r. ⌜ r ≡ badShapeOf length «root_count» «record» ⌝ }
 {
-    if bad_length(words) {
+    if bad_length(length) {
         return true;
     }
-    if MAX_ROOTS < roots {
+    if MAX_ROOTS < root_count {
         return true;
     }
     let half = record.half;
     let free = record.free.0;
-    let size = (words - 1) / 2;
-    let first = first_of(size, half).0;
+    let half_words = half_words(length);
+    let first = first_of(half_words, half).0;
     if free < first {
         return true;
     }
-    first + size < free
+    first + half_words < free
+}
+
+// ROOT, of a call that names two roots: whether either number is that of none.
+pub fn no_root(root_count: usize, one: usize, other: usize) -> bool
+    ensures { λ r. ⌜ r ≡ (leb «root_count» one || leb «root_count» other) ⌝ }
+{
+    if root_count <= one {
+        return true;
+    }
+    root_count <= other
 }

@@ -1,4 +1,5 @@
-// Words as document 01 reads them, and the tuple layout: every header is written and read here and nowhere else.
+// Words as document 01 reads them, and the tuple layout: every header is written and read here and nowhere
+// else.
 ghost use mathlib.Core.Path.{_≡_};
 ghost use mathlib.Core.Bool.{false};
 ghost use Prim.Native.Nat.{_≤_, _<_};
@@ -20,7 +21,8 @@ pub fn is_address(word: u32) -> bool
     word != 0
 }
 
-// The layout of 001: bit 31 untraced, bits 1 to 30 the field count, bit 0 clear; forwarded, the new address plus 1.
+// The layout of 001: bit 31 untraced, bits 1 to 30 the field count, bit 0 clear; forwarded, the new address
+// plus 1.
 pub struct Tuple;
 
 impl Tuple {

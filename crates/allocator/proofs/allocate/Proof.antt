@@ -3,9 +3,10 @@ use mathlib.Core.Path.{_≡_, _∙_, sym}
 use mathlib.Core.Bool.{false}
 use native.Mathlib.Omega.{arith}
 use Rattle.model.specs.Headers.{tuple}
-use Rattle.model.specs.Words.{State, lent}
+use Rattle.model.specs.Words.{State, stateOf}
 use Rattle.model.specs.Shape.{badShape}
 use Rattle.model.proofs.Shape.{shaped}
+use Rattle.model.proofs.Refusing.{said}
 use Rattle.allocator.proofs.AllocateCases.{allocate-shape, allocate-root, allocate-count, allocate-retry}
 use Rattle.placing.proofs.PlacingLaws.{allocate-now, may-spare, may-place}
 use borrow.Author.Needs.{needs}
@@ -14,13 +15,14 @@ use Rattle.allocator.proofs.allocate.Tie as tie
 use Rattle.allocator.proofs.allocate.Reads as reads
 use Rattle.allocator.proofs.allocate.Lts as lts
 use Rattle.allocator.proofs.retry.Reads as retry-reads
+use Rattle.model.proofs.say.Reads as say-reads
 use Rattle.placing.proofs.place.Reads as place-reads
 use Rattle.placing.proofs.spare_of.Reads as spare-of-reads
 use Rattle.words.proofs.shape.bad_shape.Reads as bad-shape-reads
 
 -- what the call was lent
 abbrev start : tie.Start → State
-start c = lent (c .args .heap .now) (c .args .roots .now) (c .args .«record»)
+start c = stateOf (c .args .heap .now) (c .args .roots .now) (c .args .«record»)
 
 shape : (c : tie.Else1) → badShape (start (c .before .before .before .before)) ≡ false
 shape c = sym (c .before .bad-shape .ensures) ∙ c .if1 .left
@@ -28,14 +30,31 @@ shape c = sym (c .before .bad-shape .ensures) ∙ c .if1 .left
 bad-shape-requires : tie.Need-bad-shape-requires
 bad-shape-requires c κs = search needs
 
+say-requires : tie.Need-say-requires
+say-requires c κs = search needs
+
 returns : tie.Need-returns
-returns c = sym (allocate-shape tuple _ _ _ _ (sym (c .before .bad-shape .ensures) ∙ c .if1 .taken))
+returns c =
+    said _ _ (c .say .ensures)
+    (sym (allocate-shape tuple _ _ _ _ (sym (c .before .before .bad-shape .ensures) ∙ c .before .if1 .taken)))
+
+say-requires-2 : tie.Need-say-requires-2
+say-requires-2 c κs = search needs
 
 returns-2 : tie.Need-returns-2
-returns-2 c = sym (allocate-root tuple _ _ _ _ (shape (c .before)) (c .if2 .taken))
+returns-2 c =
+    said _ _ (c .say2 .ensures)
+    (sym (allocate-root tuple _ _ _ _ (shape (c .before .before)) (c .before .if2 .taken)))
+
+say-requires-3 : tie.Need-say-requires-3
+say-requires-3 c κs = search needs
 
 returns-3 : tie.Need-returns-3
-returns-3 c = sym (allocate-count tuple _ _ _ _ (shape (c .before .before)) (c .before .if2 .left) (c .if3 .taken))
+returns-3 c =
+    let counted = c .before in
+    let rooted = counted .before in
+    said _ _ (c .say3 .ensures)
+    (sym (allocate-count tuple _ _ _ _ (shape (rooted .before)) (rooted .if2 .left) (counted .if3 .taken)))
 
 spare-of-requires : tie.Need-spare-of-requires
 spare-of-requires c κs =
@@ -54,6 +73,9 @@ place-requires c κs =
     (shaped (start s) (shape tested)) (rooted .if2 .left) (counted .if3 .left)
     (omega (arith, roomy .before .spare-of .ensures, roomy .if4 .taken))
 
+say-requires-4 : tie.Need-say-requires-4
+say-requires-4 c κs = search needs
+
 same-length : tie.Need-same-length
 same-length c = search needs
 
@@ -62,17 +84,19 @@ same-length-2 c = search needs
 
 returns-4 : tie.Need-returns-4
 returns-4 c =
-    let roomy = c .before .before .before .before .before .before .before in
+    let placed = c .before .before .before .before .before in
+    let roomy = placed .before .before .before in
     let counted = roomy .before .before in
     let rooted = counted .before in
     let tested = rooted .before in
     let s = tested .before .before .before .before in
-    rw (
+    said _ _ (c .say4 .ensures)
+    (rw (
       allocate-now tuple (s .args .kind) (s .args .fields) (s .args .to) (start s)
           (shape tested) (rooted .if2 .left) (counted .if3 .left)
           (omega (arith, roomy .before .spare-of .ensures, roomy .if4 .taken)),
-      ← (c .before .before .before .before .place .ensures),
-    )
+      ← (placed .place .ensures),
+    ))
 
 retry-requires : tie.Need-retry-requires
 retry-requires c κs = search needs
@@ -101,11 +125,15 @@ allocate-spec =
     tie.close
     (tie.spec
     bad-shape-requires
+    say-requires
     returns
+    say-requires-2
     returns-2
+    say-requires-3
     returns-3
     spare-of-requires
     place-requires
+    say-requires-4
     same-length
     same-length-2
     returns-4

@@ -3,9 +3,10 @@ use mathlib.Core.Path.{_≡_, _∙_, sym}
 use mathlib.Core.Bool.{true, or-false}
 use native.Mathlib.Omega.{arith}
 use Rattle.model.specs.Headers.{tuple}
-use Rattle.model.specs.Words.{State, lent}
+use Rattle.model.specs.Words.{State, stateOf}
 use Rattle.model.specs.Soundness.{sound}
 use Rattle.model.specs.Collection.{collected}
+use Rattle.model.proofs.Refusing.{said}
 use Rattle.allocator.proofs.Left.{left-is, left-shaped, left-roots}
 use Rattle.allocator.proofs.AllocateCases.{retried-damaged, retried-room, retried-done}
 use Rattle.placing.proofs.PlacingLaws.{may-spare, may-place}
@@ -16,12 +17,13 @@ use Rattle.allocator.proofs.retry.Reads as reads
 use Rattle.allocator.proofs.retry.Lts as lts
 use Rattle.checker.proofs.is_sound.Reads as is-sound-reads
 use Rattle.allocator.proofs.collect_among.Reads as collect-among-reads
+use Rattle.model.proofs.say.Reads as say-reads
 use Rattle.placing.proofs.place.Reads as place-reads
 use Rattle.placing.proofs.spare_of.Reads as spare-of-reads
 
 -- what the call was lent
 abbrev start : tie.Start → State
-start c = lent (c .args .heap .now) (c .args .roots .now) (c .args .«record»)
+start c = stateOf (c .args .heap .now) (c .args .roots .now) (c .args .«record»)
 
 abbrev origin : tie.After-after → tie.Start
 origin c =
@@ -36,7 +38,7 @@ checked c =
     sym (asked .ensures .0) ∙ cc (or-false (asked .result), tested .if1 .taken)
 
 left : (c : tie.After-after) → let l = c .before .before .before .before .before .collect-among in
-    lent (l .last .0) (l .last .1 .0) (l .result .«record») ≡ collected tuple (start (origin c))
+    stateOf (l .last .0) (l .last .1 .0) (l .result .«record») ≡ collected tuple (start (origin c))
 left c =
     let done = c .before .before .before .before .before in
     let asked = done .before .before .before .before .before .before in
@@ -61,6 +63,9 @@ place-requires c κs =
     (omega (arith, left-roots tuple _ (checked after) _ (left after), origin after .pre .1)) (origin after .pre .0)
     (omega (arith, roomy .before .spare-of .ensures, roomy .if2 .taken))
 
+say-requires : tie.Need-say-requires
+say-requires c κs = search needs
+
 same-length : tie.Need-same-length
 same-length c = search needs
 
@@ -69,11 +74,15 @@ same-length-2 c = search needs
 
 returns : tie.Need-returns
 returns c =
-    let placed = c .before .before .before .before in
+    let placed = c .before .before .before .before .before in
     let roomy = placed .before .before .before in
     let after = roomy .before .before in
-    retried-done tuple _ _ _ _ (checked after) _ (left after) _
-    (roomy .before .spare-of .ensures) (roomy .if2 .taken) _ (placed .place .ensures)
+    said _ _ (c .say .ensures)
+    (retried-done tuple _ _ _ _ (checked after) _ (left after) _
+    (roomy .before .spare-of .ensures) (roomy .if2 .taken) _ (placed .place .ensures))
+
+say-requires-2 : tie.Need-say-requires-2
+say-requires-2 c κs = search needs
 
 same-length-3 : tie.Need-same-length-3
 same-length-3 c = search needs
@@ -83,8 +92,13 @@ same-length-4 c = search needs
 
 returns-2 : tie.Need-returns-2
 returns-2 c =
-    let after = c .before .before in
-    retried-room tuple _ _ _ _ (checked after) _ (left after) _ (c .before .spare-of .ensures) (c .if2 .left)
+    let full = c .before in
+    let after = full .before .before in
+    said _ _ (c .say2 .ensures)
+    (retried-room tuple _ _ _ _ (checked after) _ (left after) _ (full .before .spare-of .ensures) (full .if2 .left))
+
+say-requires-3 : tie.Need-say-requires-3
+say-requires-3 c κs = search needs
 
 same-length-5 : tie.Need-same-length-5
 same-length-5 c = search needs
@@ -94,9 +108,11 @@ same-length-6 c = search needs
 
 returns-3 : tie.Need-returns-3
 returns-3 c =
-    let asked = c .before .before .before .is-sound in
-    rw (asked .ensures .1)
-    (sym (retried-damaged tuple _ _ _ _ (sym (asked .ensures .0) ∙ cc (or-false (asked .result), c .if1 .left))))
+    let judged = c .before in
+    let asked = judged .before .before .before .is-sound in
+    said _ _ (c .say3 .ensures)
+    (rw (asked .ensures .1)
+    (sym (retried-damaged tuple _ _ _ _ (sym (asked .ensures .0) ∙ cc (or-false (asked .result), judged .if1 .left)))))
 
 pub retry-spec : {M : Type 1} → statement M
 retry-spec =
@@ -106,12 +122,15 @@ retry-spec =
     collect-among-requires
     spare-of-requires
     place-requires
+    say-requires
     same-length
     same-length-2
     returns
+    say-requires-2
     same-length-3
     same-length-4
     returns-2
+    say-requires-3
     same-length-5
     same-length-6
     returns-3)

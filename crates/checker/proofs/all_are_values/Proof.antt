@@ -9,7 +9,7 @@ use Rattle.checker.proofs.all_are_values.Tie as tie
 use Rattle.checker.proofs.all_are_values.Reads as reads
 use Rattle.checker.proofs.all_are_values.Lts as lts
 use Rattle.checker.proofs.all_fields_are_values.Reads as all-fields-are-values-reads
-use Rattle.marks.proofs.are_values.Reads as are-values-reads
+use Rattle.checker_marks.proofs.are_values.Reads as are-values-reads
 
 are-values-requires : tie.Need-are-values-requires
 are-values-requires c κs = search needs

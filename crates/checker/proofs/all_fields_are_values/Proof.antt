@@ -8,12 +8,12 @@ use borrow.Author.Tests.{not-true, not-false}
 use Rattle.model.specs.Headers.{tuple}
 use Rattle.model.specs.Soundness.{all, tiles, headersFrom}
 use Rattle.model.proofs.Walks.{tiles-turn, tile-within, all-passed, all-failed, all-ended}
-use Rattle.marks.specs.Marks.{fieldsAreValuesByMarks, headersOf}
+use Rattle.checker_marks.specs.Marks.{fieldsAreValuesByMarks, headersOf}
 use Rattle.checker.proofs.all_fields_are_values.Statement.{statement}
 use Rattle.checker.proofs.all_fields_are_values.Tie as tie
 use Rattle.checker.proofs.all_fields_are_values.Reads as reads
 use Rattle.checker.proofs.all_fields_are_values.Lts as lts
-use Rattle.marks.proofs.fields_are_values.Reads as fields-are-values-reads
+use Rattle.checker_marks.proofs.fields_are_values.Reads as fields-are-values-reads
 use Rattle.words.proofs.tuple.Tuple.count_of.Reads as count-of-reads
 
 abbrev Inv-loop : tie.InvT-loop

@@ -2,8 +2,9 @@
 use mathlib.Core.Path.{_≡_, sym, _∙_}
 use mathlib.Core.Bool.{false}
 use Rattle.model.specs.Headers.{tuple}
-use Rattle.model.specs.Words.{State, lent}
+use Rattle.model.specs.Words.{State, stateOf}
 use Rattle.model.specs.Shape.{badShape}
+use Rattle.model.proofs.Refusing.{said}
 use Rattle.checker.proofs.Returns.{check-refused, check-sound, check-unsound}
 use borrow.Author.Needs.{needs}
 use Rattle.checker.proofs.check.Statement.{statement}
@@ -12,10 +13,11 @@ use Rattle.checker.proofs.check.Reads as reads
 use Rattle.checker.proofs.check.Lts as lts
 use Rattle.checker.proofs.is_sound.Reads as is-sound-reads
 use Rattle.words.proofs.shape.bad_shape.Reads as bad-shape-reads
+use Rattle.model.proofs.say.Reads as say-reads
 
 -- what the call was lent
 abbrev start : tie.Start → State
-start c = lent (c .args .heap .now) (c .args .roots .now) (c .args .«record»)
+start c = stateOf (c .args .heap .now) (c .args .roots .now) (c .args .«record»)
 
 shape : (c : tie.Else1) → badShape (start (c .before .before .before .before)) ≡ false
 shape c = sym (c .before .bad-shape .ensures) ∙ c .if1 .left
@@ -23,38 +25,56 @@ shape c = sym (c .before .bad-shape .ensures) ∙ c .if1 .left
 bad-shape-requires : tie.Need-bad-shape-requires
 bad-shape-requires c κs = search needs
 
+say-requires : tie.Need-say-requires
+say-requires c κs = search needs
+
 returns : tie.Need-returns
-returns c = check-refused tuple _ _ _ (sym (c .before .bad-shape .ensures) ∙ c .if1 .taken)
+returns c =
+    said _ _ (c .say .ensures)
+    (check-refused tuple _ _ _ (sym (c .before .before .bad-shape .ensures) ∙ c .before .if1 .taken))
 
 is-sound-requires : tie.Need-is-sound-requires
 is-sound-requires c κs = search needs
+
+say-requires-2 : tie.Need-say-requires-2
+say-requires-2 c κs = search needs
 
 same-length : tie.Need-same-length
 same-length c = search needs
 
 returns-2 : tie.Need-returns-2
 returns-2 c =
-    let asked = c .before .before .before in
+    let tested = c .before in
+    let asked = tested .before .before .before in
     let k = asked .is-sound .ensures in
-    check-sound tuple _ _ _ (shape (asked .before .before)) _ (k .1) (sym (c .if2 .taken) ∙ k .0)
+    said _ _ (c .say2 .ensures)
+    (check-sound tuple _ _ _ (shape (asked .before .before)) _ (k .1) (sym (tested .if2 .taken) ∙ k .0))
+
+say-requires-3 : tie.Need-say-requires-3
+say-requires-3 c κs = search needs
 
 same-length-2 : tie.Need-same-length-2
 same-length-2 c = search needs
 
 returns-3 : tie.Need-returns-3
 returns-3 c =
-    let asked = c .before .before .before in
+    let tested = c .before in
+    let asked = tested .before .before .before in
     let k = asked .is-sound .ensures in
-    check-unsound tuple _ _ _ (shape (asked .before .before)) _ (k .1) (sym (c .if2 .left) ∙ k .0)
+    said _ _ (c .say3 .ensures)
+    (check-unsound tuple _ _ _ (shape (asked .before .before)) _ (k .1) (sym (tested .if2 .left) ∙ k .0))
 
 pub check-spec : {M : Type 1} → statement M
 check-spec =
     tie.close
     (tie.spec
     bad-shape-requires
+    say-requires
     returns
     is-sound-requires
+    say-requires-2
     same-length
     returns-2
+    say-requires-3
     same-length-2
     returns-3)

@@ -1,12 +1,14 @@
 -- `checker::is_sound` meets its contract: a law for each return. Past the first test the heap has its shape.
 use native.Mathlib.Omega.{arith}
-use mathlib.Core.Path.{_≡_, refl, sym, _∙_}
+use Prim.Native.Nat.{ℕ}
+use mathlib.Core.Path.{_≡_, refl, sym, ap, _∙_}
 use mathlib.Core.Bool.{false}
 use borrow.Author.Tests.{not-true, not-false}
 use Rattle.model.specs.Headers.{tuple}
 use Rattle.model.specs.Shape.{badShape}
-use Rattle.model.specs.Words.{State, lent}
+use Rattle.model.specs.Words.{State, stateOf, halfWords}
 use Rattle.model.proofs.Shape.{shaped}
+use Rattle.checker_marks.specs.Marks.{partOf, isZeroAround}
 use Rattle.checker.proofs.Returns.{unsound-shape, part-halves, part-fits, unsound-around, sound-used}
 use borrow.Author.Needs.{needs}
 use Rattle.checker.proofs.is_sound.Statement.{statement}
@@ -17,13 +19,30 @@ use Rattle.checker.proofs.is_used_part_sound.Reads as is-used-part-soun
 use Rattle.checker.proofs.is_zero_around.Reads as is-zero-around-reads
 use Rattle.checker.proofs.part_of.Reads as part-of-reads
 use Rattle.words.proofs.shape.bad_shape.Reads as bad-shape-reads
+use Rattle.words.proofs.shape.half_words.Reads as half-words-reads
 
 -- what the call was lent
 abbrev start : tie.Start → State
-start c = lent (c .args .heap .now) (c .args .roots .now) (c .args .«record»)
+start c = stateOf (c .args .heap .now) (c .args .roots .now) (c .args .«record»)
 
 shape : (c : tie.Else1) → badShape (start (c .before .before .before .before)) ≡ false
 shape c = sym (c .before .bad-shape .ensures) ∙ c .if1 .left
+
+-- the part, and what was found around it, by the heap's length
+parted-is : (c : tie.After-part-of) → let s = c .before .before .before .before .before .before in
+    c .part-of .result ≡ partOf (halfWords (s .args .heap .now)) (s .args .«record»)
+parted-is c =
+    let s = c .before .before .before .before .before .before in
+    c .part-of .ensures ∙ ap (λ (S : ℕ). partOf S (s .args .«record»)) (c .before .half-words .ensures)
+
+around-is : (c : tie.After-is-zero-around) → let parted = c .before .before in
+    let s = parted .before .before .before .before .before .before in
+    c .is-zero-around .result ≡ isZeroAround (s .args .heap .now) (parted .part-of .result) (halfWords (s .args .heap .now))
+around-is c =
+    let parted = c .before .before in
+    let s = parted .before .before .before .before .before .before in
+    c .is-zero-around .ensures
+    ∙ ap (λ (S : ℕ). isZeroAround (s .args .heap .now) (parted .part-of .result) S) (parted .before .half-words .ensures)
 
 bad-shape-requires : tie.Need-bad-shape-requires
 bad-shape-requires c κs = search needs
@@ -31,18 +50,21 @@ bad-shape-requires c κs = search needs
 returns : tie.Need-returns
 returns c = (unsound-shape tuple _ _ _ (sym (c .before .bad-shape .ensures) ∙ c .if1 .taken), refl)
 
-sub-words : tie.Need-sub-words
-sub-words c = omega (arith, shaped (start (c .before .before .before .before)) (shape c) .odd)
+half-words-requires : tie.Need-half-words-requires
+half-words-requires c κs = omega (arith, shaped (start (c .before .before .before .before)) (shape c) .odd)
 
 part-of-requires : tie.Need-part-of-requires
-part-of-requires c κs = shaped (start (c .before .before .before .before)) (shape c) .small
+part-of-requires c κs =
+    let tested = c .before in
+    omega (arith, c .half-words .ensures, shaped (start (tested .before .before .before .before)) (shape tested) .small)
 
 is-zero-around-requires : tie.Need-is-zero-around-requires
 is-zero-around-requires c κs =
     let parted = c .before in
-    let tested = parted .before in
+    let halved = parted .before in
+    let tested = halved .before in
     let s = tested .before .before .before .before in
-    part-halves tuple _ (s .args .roots .now) _ (shape tested) _ (parted .part-of .ensures)
+    rw (halved .half-words .ensures) (part-halves tuple _ (s .args .roots .now) _ (shape tested) _ (parted-is parted))
 
 same-length : tie.Need-same-length
 same-length c = search needs
@@ -51,15 +73,15 @@ returns-2 : tie.Need-returns-2
 returns-2 c =
     let cleared = c .before in
     let parted = cleared .before .before in
-    let u = unsound-around tuple _ _ _ (shape (parted .before)) _ (parted .part-of .ensures) in
-    (u (sym (not-true _ (c .if2 .taken)) ∙ cleared .is-zero-around .ensures), refl)
+    let u = unsound-around tuple _ _ _ (shape (parted .before .before)) _ (parted-is parted) in
+    (u (sym (not-true _ (c .if2 .taken)) ∙ around-is cleared), refl)
 
 is-used-part-sound-requires : tie.Need-is-used-part-sound-requires
 is-used-part-sound-requires c κs =
     let parted = c .before .before .before .before in
-    let tested = parted .before in
+    let tested = parted .before .before in
     let s = tested .before .before .before .before in
-    part-fits tuple _ (s .args .roots .now) _ (shape tested) _ (parted .part-of .ensures)
+    part-fits tuple _ (s .args .roots .now) _ (shape tested) _ (parted-is parted)
 
 same-length-2 : tie.Need-same-length-2
 same-length-2 c = search needs
@@ -71,8 +93,8 @@ returns-3 c =
     let cleared = around .before in
     let parted = cleared .before .before in
     let m = used .is-used-part-sound .ensures in
-    sound-used tuple _ _ _ (shape (parted .before)) _ (parted .part-of .ensures)
-    (sym (not-false _ (around .if2 .left)) ∙ cleared .is-zero-around .ensures) _ _ (m .0) (m .1)
+    sound-used tuple _ _ _ (shape (parted .before .before)) _ (parted-is parted)
+    (sym (not-false _ (around .if2 .left)) ∙ around-is cleared) _ _ (m .0) (m .1)
 
 pub is-sound-spec : {M : Type 1} → statement M
 is-sound-spec =
@@ -80,7 +102,7 @@ is-sound-spec =
     (tie.spec
     bad-shape-requires
     returns
-    sub-words
+    half-words-requires
     part-of-requires
     is-zero-around-requires
     same-length

@@ -22,7 +22,7 @@ returns-2 : tie.Need-returns-2
 returns-2 c =
     let zero = c .before .before in
     let a = zero .before .before .before .args in
-    around-dirty (a .heap .now) (a .part) (a .words) (omega (arith, zero .if1))
+    around-dirty (a .heap .now) (a .part) (a .half-words) (omega (arith, zero .if1))
     _ (all-zero-requires zero (c .before .all-zero .lifetimes))
     _ (c .before .all-zero .ensures) (omega arith) (not-true _ (c .if2 .taken))
 
@@ -41,7 +41,7 @@ returns-3 c =
     let tested = clean .before in
     let zero = tested .before in
     let a = zero .before .before .before .args in
-    around-rest (a .heap .now) (a .part) (a .words) (omega (arith, zero .if1))
+    around-rest (a .heap .now) (a .part) (a .half-words) (omega (arith, zero .if1))
     _ (all-zero-requires zero (tested .all-zero .lifetimes))
     _ (tested .all-zero .ensures) (omega arith) (not-false _ (clean .if2 .left))
     _ (all-zero-requires-2 (c .before) (c .all-zero2 .lifetimes)) _ (c .all-zero2 .ensures) (omega arith)

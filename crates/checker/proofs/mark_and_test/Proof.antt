@@ -7,7 +7,7 @@ use Rattle.checker.proofs.mark_and_test.Tie as tie
 use Rattle.checker.proofs.mark_and_test.Reads as reads
 use Rattle.checker.proofs.mark_and_test.Lts as lts
 use Rattle.checker.proofs.all_are_values.Reads as all-are-values-reads
-use Rattle.marks.proofs.mark_headers.Reads as mark-headers-reads
+use Rattle.checker_marks.proofs.mark_headers.Reads as mark-headers-reads
 
 mark-headers-requires : tie.Need-mark-headers-requires
 mark-headers-requires c κs = search needs

@@ -9,19 +9,19 @@ use Rattle.crossing.proofs.word_at.Statement.{statement}
 use Rattle.crossing.proofs.word_at.Tie as tie
 use Rattle.crossing.proofs.word_at.Reads as reads
 use Rattle.crossing.proofs.word_at.Lts as lts
-use Rattle.crossing.proofs.answer.Reads as answer-reads
+use Rattle.crossing.proofs.answer_of.Reads as answer-of-reads
 
 cast-count : tie.Need-cast-count
 cast-count c = search needs
 
-answer-requires : tie.Need-answer-requires
-answer-requires c κs = search needs
+answer-of-requires : tie.Need-answer-of-requires
+answer-of-requires c κs = search needs
 
 returns : tie.Need-returns
 unfolding wordAt
 returns c =
     let a = c .before .before .before .before .args in
-    rw (le-leb (a .window .count) (a .field) (omega (arith, c .before .if1 .taken))) (c .answer .ensures)
+    rw (le-leb (a .window .count) (a .field) (omega (arith, c .before .if1 .taken))) (c .answer-of .ensures)
 
 cast-at : tie.Need-cast-at
 cast-at c = search needs
@@ -29,8 +29,8 @@ cast-at c = search needs
 add-at : tie.Need-add-at
 add-at c = search needs
 
-answer-requires-2 : tie.Need-answer-requires-2
-answer-requires-2 c κs = search needs
+answer-of-requires-2 : tie.Need-answer-of-requires-2
+answer-of-requires-2 c κs = search needs
 
 returns-2 : tie.Need-returns-2
 unfolding wordAt
@@ -42,7 +42,7 @@ returns-2 c =
       lt-leb (a .window .count) (a .field) (omega (arith, below .if1 .left)),
       le-leb (length (a .heap .now)) (a .window .first + a .field) (omega (arith, past .if2 .taken)),
     )
-    (c .answer2 .ensures)
+    (c .answer-of2 .ensures)
 
 mul-t9 : tie.Need-mul-t9
 mul-t9 c = search needs
@@ -50,8 +50,8 @@ mul-t9 c = search needs
 shared-slice-read-t13 : tie.Need-shared-slice-read-t13
 shared-slice-read-t13 c = search needs
 
-answer-requires-3 : tie.Need-answer-requires-3
-answer-requires-3 c κs = search needs
+answer-of-requires-3 : tie.Need-answer-of-requires-3
+answer-of-requires-3 c κs = search needs
 
 returns-3 : tie.Need-returns-3
 unfolding wordAt
@@ -63,20 +63,20 @@ returns-3 c =
       lt-leb (a .window .count) (a .field) (omega (arith, below .if1 .left)),
       lt-leb (length (a .heap .now)) (a .window .first + a .field) (omega (arith, within .if2 .left)),
     )
-    (c .answer3 .ensures)
+    (c .answer-of3 .ensures)
 
 pub word-at-spec : {M : Type 1} → statement M
 word-at-spec =
     tie.close
     (tie.spec
     cast-count
-    answer-requires
+    answer-of-requires
     returns
     cast-at
     add-at
-    answer-requires-2
+    answer-of-requires-2
     returns-2
     mul-t9
     shared-slice-read-t13
-    answer-requires-3
+    answer-of-requires-3
     returns-3)

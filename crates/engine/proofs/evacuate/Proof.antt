@@ -5,7 +5,7 @@ use Rattle.engine.proofs.evacuate.Statement.{statement}
 use Rattle.engine.proofs.evacuate.Tie as tie
 use Rattle.engine.proofs.evacuate.Reads as reads
 use Rattle.engine.proofs.evacuate.Lts as lts
-use Rattle.scanning.proofs.pass_objects.Reads as pass-objects-reads
+use Rattle.engine_scanning.proofs.pass_objects.Reads as pass-objects-reads
 use Rattle.engine.proofs.visit_roots.Reads as visit-roots-reads
 use Rattle.runs.proofs.clear.Reads as clear-reads
 

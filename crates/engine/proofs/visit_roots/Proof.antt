@@ -10,7 +10,7 @@ use Rattle.engine.proofs.visit_roots.Statement.{statement}
 use Rattle.engine.proofs.visit_roots.Tie as tie
 use Rattle.engine.proofs.visit_roots.Reads as reads
 use Rattle.engine.proofs.visit_roots.Lts as lts
-use Rattle.moving.proofs.rename.Reads as rename-reads
+use Rattle.engine_moving.proofs.rename.Reads as rename-reads
 
 abbrev Inv-loop : tie.InvT-loop
 Inv-loop heap₀ roots₀ free₀ i₀ heap roots free i =

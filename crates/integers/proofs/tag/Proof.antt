@@ -7,7 +7,7 @@ use borrow.Author.Tests.{le-leb, lt-leb}
 use Rattle.model.specs.Limits.{maxInteger}
 use Rattle.integers.specs.declared.Tagged.the-variants.{Word}
 use Rattle.integers.specs.Tagging.{tagged}
-use Rattle.integers.proofs.Signs.{negative, natural, down, below-is, size-is}
+use Rattle.integers.proofs.Signs.{negative, natural, down, below-is, magnitude-is}
 use borrow.Author.Needs.{needs}
 use Rattle.integers.proofs.tag.Statement.{statement}
 use Rattle.integers.proofs.tag.Tie as tie
@@ -52,18 +52,18 @@ returns-2 c =
     ap (λ (z : ℤ). Word (4294967295 - 2 * natAbs z)) (below-is _ f b)
     ∙ sym (ap tagged (b .is) ∙ simp (le-leb _ maxInteger h))
 
-cast-size : tie.Need-cast-size
-cast-size c =
+cast-magnitude : tie.Need-cast-magnitude
+cast-magnitude c =
     let f = c .before .fits .value in
     let b = natural _ f (c .if1 .left) in
-    rw (size-is _ f b) (tt, omega (arith, b .small))
+    rw (magnitude-is _ f b) (tt, omega (arith, b .small))
 
 returns-3 : tie.Need-returns-3
 unfolding tagged
 returns-3 c =
     let f = c .before .before .fits .value in
     let b = natural _ f (c .before .if1 .left) in
-    let h = rw (size-is _ f b) at (c .if3 .taken) in
+    let h = rw (magnitude-is _ f b) at (c .if3 .taken) in
     rw (b .is) (simp (lt-leb _ maxInteger h))
 
 mul-t10 : tie.Need-mul-t10
@@ -80,8 +80,8 @@ unfolding tagged
 returns-4 c =
     let f = c .before .before .fits .value in
     let b = natural _ f (c .before .if1 .left) in
-    let h = rw (size-is _ f b) at (c .if3 .left) in
-    ap (λ (z : ℤ). Word (2 * natAbs z + 1)) (size-is _ f b)
+    let h = rw (magnitude-is _ f b) at (c .if3 .left) in
+    ap (λ (z : ℤ). Word (2 * natAbs z + 1)) (magnitude-is _ f b)
     ∙ sym (ap tagged (b .is) ∙ simp (le-leb _ maxInteger h))
 
 pub tag-spec : {M : Type 1} → statement M
@@ -95,7 +95,7 @@ tag-spec =
     sub-t8
     cast-t9
     returns-2
-    cast-size
+    cast-magnitude
     returns-3
     mul-t10
     add-t11

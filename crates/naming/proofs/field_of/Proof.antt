@@ -6,7 +6,7 @@ use mathlib.Core.Path.{_≡_, refl, sym, ap, _∙_}
 use lib.Dec.{leb}
 use mathlib.Core.Bool.{false, not}
 use mathlib.Core.List.{List, []}
-use Rattle.model.specs.Words.{State, lent}
+use Rattle.model.specs.Words.{State, stateOf}
 use Rattle.model.specs.Headers.{tuple}
 use Rattle.model.specs.Objects.{names}
 use Rattle.naming.proofs.NamedObjects.{header-in, field-tests}
@@ -22,7 +22,7 @@ use Rattle.words.proofs.tuple.Tuple.index_of.Reads as index-of-reads
 
 -- what the call was lent, with any roots
 abbrev start : tie.Start → List ℕ → State
-start c R = lent (c .args .heap .now) R (c .args .«record»)
+start c R = stateOf (c .args .heap .now) R (c .args .«record»)
 
 named : (c : tie.Else1) (R : List ℕ) → let s = c .before .before .before in not (names tuple (start s R) (s .args .word)) ≡ false
 named c R = ap not (sym (c .before .names .ensures R)) ∙ c .if1 .left

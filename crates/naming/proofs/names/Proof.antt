@@ -5,9 +5,10 @@ use Prim.Native.Nat.{ℕ, _+_}
 use mathlib.Core.Path.{_≡_, refl, sym, ap, _∙_}
 use lib.Dec.{leb}
 use mathlib.Core.Bool.{true}
-use mathlib.Core.List.{List}
-use Rattle.model.specs.Words.{State, lent}
+use mathlib.Core.List.{List, []}
+use Rattle.model.specs.Words.{State, stateOf, firstWord}
 use Rattle.model.specs.Values.{isAddress}
+use Rattle.words.proofs.FirstWords.{first-by-length}
 use Rattle.naming.proofs.NamedObjects.{names-tests}
 use borrow.Author.Needs.{needs}
 use Rattle.naming.proofs.names.Statement.{statement}
@@ -15,6 +16,7 @@ use Rattle.naming.proofs.names.Tie as tie
 use Rattle.naming.proofs.names.Reads as reads
 use Rattle.naming.proofs.names.Lts as lts
 use Rattle.words.proofs.shape.first_of.Reads as first-of-reads
+use Rattle.words.proofs.shape.half_words.Reads as half-words-reads
 use Rattle.words.proofs.tuple.Tuple.count_of.Reads as count-of-reads
 use Rattle.words.proofs.tuple.Tuple.index_of.Reads as index-of-reads
 use Rattle.words.proofs.tuple.Tuple.is_header.Reads as is-header-reads
@@ -22,10 +24,17 @@ use Rattle.words.proofs.tuple.is_address.Reads as is-address-reads
 
 -- what the call was lent, with any roots
 abbrev start : tie.Start → List ℕ → State
-start c R = lent (c .args .heap .now) R (c .args .«record»)
+start c R = stateOf (c .args .heap .now) R (c .args .«record»)
 
 address : (c : tie.Else1) → isAddress (c .before .before .before .args .word) ≡ true
 address c = sym (c .before .is-address .ensures) ∙ not-false _ (c .if1 .left)
+
+-- the half's first word, by the heap's length
+first : (c : tie.After-first-of) → let s = c .before .before .before .before .before .before in
+    c .first-of .result .0 ≡ firstWord (start s [])
+first c =
+    let s = c .before .before .before .before .before .before in
+    first-by-length _ (s .args .«record» .half) (c .first-of .ensures) (c .before .half-words .ensures)
 
 is-address-requires : tie.Need-is-address-requires
 is-address-requires c κs = search needs
@@ -40,8 +49,8 @@ returns-2 c = λ R.
     names-tests _ (start (c .before .before .before .before) R) _ _ _ refl refl
     (address (c .before)) (ne-eqb _ _ (c .if2 .taken)) refl refl refl refl
 
-sub-first-of : tie.Need-sub-first-of
-sub-first-of c = search needs
+half-words-requires : tie.Need-half-words-requires
+half-words-requires c κs = search needs
 
 first-of-requires : tie.Need-first-of-requires
 first-of-requires c κs = search needs
@@ -53,9 +62,9 @@ returns-3 : tie.Need-returns-3
 returns-3 c = λ R.
     let indexed = c .before in
     let based = indexed .before in
-    let aligned = based .before in
+    let aligned = based .before .before in
     names-tests _ (start (aligned .before .before .before .before) R) _ _ _
-    (indexed .index-of .ensures) (based .first-of .ensures)
+    (indexed .index-of .ensures) (first based)
     (address (aligned .before)) (eq-eqb _ _ (aligned .if2 .left)) (lt-leb _ _ (c .if3 .taken)) refl refl refl
 
 returns-4 : tie.Need-returns-4
@@ -63,9 +72,9 @@ returns-4 c = λ R.
     let past = c .before in
     let indexed = past .before in
     let based = indexed .before in
-    let aligned = based .before in
+    let aligned = based .before .before in
     names-tests _ (start (aligned .before .before .before .before) R) _ _ _
-    (indexed .index-of .ensures) (based .first-of .ensures)
+    (indexed .index-of .ensures) (first based)
     (address (aligned .before)) (eq-eqb _ _ (aligned .if2 .left)) (le-leb _ _ (past .if3 .left))
     (le-ltb _ _ (c .if4 .taken)) refl refl
 
@@ -85,9 +94,9 @@ returns-5 c = λ R.
     let past = below .before in
     let indexed = past .before in
     let based = indexed .before in
-    let aligned = based .before in
+    let aligned = based .before .before in
     names-tests _ (start (aligned .before .before .before .before) R) _ _ _
-    (indexed .index-of .ensures) (based .first-of .ensures)
+    (indexed .index-of .ensures) (first based)
     (address (aligned .before)) (eq-eqb _ _ (aligned .if2 .left)) (le-leb _ _ (past .if3 .left))
     (lt-ltb _ _ (below .if4 .left)) (sym (tested .is-header .ensures) ∙ not-true _ (c .if5 .taken)) refl
 
@@ -108,10 +117,10 @@ returns-6 c = λ R.
     let past = below .before in
     let indexed = past .before in
     let based = indexed .before in
-    let aligned = based .before in
+    let aligned = based .before .before in
     let s = aligned .before .before .before .before in
     names-tests _ (start s R) _ _ _
-    (indexed .index-of .ensures) (based .first-of .ensures)
+    (indexed .index-of .ensures) (first based)
     (address (aligned .before)) (eq-eqb _ _ (aligned .if2 .left)) (le-leb _ _ (past .if3 .left))
     (lt-ltb _ _ (below .if4 .left)) (sym (tested .is-header .ensures) ∙ not-false _ (headed .if5 .left))
     (ap (λ (e : ℕ). leb e (s .args .«record» .free .0)) (omega (arith, c .count-of .ensures .0)))
@@ -123,7 +132,7 @@ names-spec =
     is-address-requires
     returns
     returns-2
-    sub-first-of
+    half-words-requires
     first-of-requires
     index-of-requires
     returns-3

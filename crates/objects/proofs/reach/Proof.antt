@@ -3,11 +3,11 @@ use Prim.Native.Nat.{_<_}
 use mathlib.Core.Path.{_≡_, sym, _∙_}
 use mathlib.Core.Bool.{false, _||_}
 use lib.ListN.{length}
-use Rattle.model.specs.Words.{State, lent}
+use Rattle.model.specs.Words.{State, stateOf}
 use Rattle.model.specs.Shape.{badShape}
 use Rattle.model.specs.Changes.{noRoot}
 use Rattle.objects.specs.Reached.{reached}
-use Rattle.access.proofs.RootNumbers.{both-below}
+use Rattle.words.proofs.RootNumbers.{both-below}
 use Rattle.naming.proofs.NamedObjects.{free-in-heap}
 use borrow.Author.Needs.{needs}
 use Rattle.objects.proofs.reach.Statement.{statement}
@@ -15,12 +15,12 @@ use Rattle.objects.proofs.reach.Tie as tie
 use Rattle.objects.proofs.reach.Reads as reads
 use Rattle.objects.proofs.reach.Lts as lts
 use Rattle.naming.proofs.field_of.Reads as field-of-reads
-use Rattle.access.proofs.root_numbers.no_root.Reads as no-root-reads
+use Rattle.words.proofs.shape.no_root.Reads as no-root-reads
 use Rattle.words.proofs.shape.bad_shape.Reads as bad-shape-reads
 
 -- what the call was lent
 abbrev start : tie.Start → State
-start c = lent (c .args .heap .now) (c .args .roots .now) (c .args .«record»)
+start c = stateOf (c .args .heap .now) (c .args .roots .now) (c .args .«record»)
 
 shape : (c : tie.Else1) → badShape (start (c .before .before .before .before)) ≡ false
 shape c = sym (c .before .bad-shape .ensures) ∙ c .if1 .left

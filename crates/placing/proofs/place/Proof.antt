@@ -3,7 +3,7 @@ use mathlib.Core.Path.{ap, _∙_}
 use native.Mathlib.Omega.{arith}
 use lib.ListN.{length, length-set}
 use Rattle.model.specs.Headers.{tuple}
-use Rattle.model.specs.Words.{lent}
+use Rattle.model.specs.Words.{stateOf}
 use Rattle.runs.proofs.RunLaws.{cleared-length}
 use Rattle.placing.proofs.PlacingLaws.{placed-by}
 use borrow.Author.Needs.{needs}
@@ -61,7 +61,7 @@ returns c =
     let cleared = c .before .before .before in
     let headed = cleared .before .before in
     let s = headed .before .before .before .before in
-    placed-by tuple (lent (s .args .heap .now) (s .args .roots .now) (s .args .«record»)) _ _ _ _ _ _
+    placed-by tuple (stateOf (s .args .heap .now) (s .args .roots .now) (s .args .«record»)) _ _ _ _ _ _
     (headed .header .ensures) (cleared .clear .ensures) (c .address-of .ensures)
 
 pub place-spec : {M : Type 1} → statement M

@@ -11,11 +11,11 @@ use Rattle.objects.proofs.load.Reads as load-reads
 use Rattle.objects.proofs.raw_read.Reads as raw-read-reads
 use Rattle.objects.proofs.raw_write.Reads as raw-write-reads
 use Rattle.objects.proofs.store.Reads as store-reads
-use Rattle.views.proofs.inspect.inspect.Reads as inspect-reads
-use Rattle.access.proofs.roots.copy.Reads as copy-reads
-use Rattle.access.proofs.roots.same.Reads as same-reads
-use Rattle.integers.proofs.set_integer.set_integer.Reads as set-integer-reads
-use Rattle.access.proofs.roots.set_null.Reads as set-null-reads
+use Rattle.views.proofs.contents.inspect.Reads as inspect-reads
+use Rattle.blind.proofs.roots.copy.Reads as copy-reads
+use Rattle.blind.proofs.roots.same.Reads as same-reads
+use Rattle.blind.proofs.integer.set_integer.Reads as set-integer-reads
+use Rattle.blind.proofs.roots.set_null.Reads as set-null-reads
 use Rattle.checker.proofs.check.Reads as check-reads
 use Rattle.allocator.proofs.allocate.Reads as allocate-reads
 use Rattle.collector.proofs.collect.Reads as collect-reads

@@ -39,7 +39,7 @@ use denote.Triple.Table.{entered, cited}
 use denote.Triple.Walked.{says, Stays, stay-none, stay-none-slice, walkOf, goes-none, goes-none-slice, Walks, ends-at, walked, walk-meets}
 use denote.Exit.{yes}
 use denote.Triple.Clauses.{ensured, lasts}
-use Rattle.model.specs.Words.{lent}
+use Rattle.model.specs.Words.{stateOf}
 use Rattle.model.specs.Headers as Layouts
 use Rattle.model.specs.Window as Windows
 use Rattle.window.specs.declared.Window.{Window}
@@ -129,7 +129,7 @@ module _ {M : Type 1} (𝓤 : URA M) (H : Heap 𝓤) (A : Atoms 𝓤) (W : Given
       use2 W (raw (Callee 𝓤 H A mem run .pre to)) asked $ frame ! $ move ! (1 ∷ []) $ frame ! $ done !
 
   abbrev found : Place
-  found = Windows.window Layouts.tuple object (lent (now x₀) (now x₁) q)
+  found = Windows.window Layouts.tuple object (stateOf (now x₀) (now x₁) q)
 
   said : (r : Place) → ent 𝓤 (ensured 𝓤 H A callee.ended (callee.clauses 𝓤 H A mem run) (κ₀, (κ₁, tt)) a tt r) (fact 𝓤 (r ≡ found))
   said r = exE 𝓤 _ (λ ws. snd∗ 𝓤 (sem 𝓤 H A (lasts callee.ended (κ₀, (κ₁, tt)) a ws)) (fact 𝓤 (r ≡ found)))
@@ -138,7 +138,7 @@ module _ {M : Type 1} (𝓤 : URA M) (H : Heap 𝓤) (A : Atoms 𝓤) (W : Given
   pv r = EL.val P.the-type P′.the-laws r
 
   abbrev made : Place → Window
-  made r = record { words = x₀; place = r }
+  made r = record { heap = x₀; place = r }
 
   exits : (r : Place) → Is P.the-row r (pv r ∷ []) → r ≡ found
       → ent 𝓤 (⋆ 𝓤 H A ((‵ (flft κ₀ q₀) ⊛ ‵ (flft κ₁ q₁) ⊛ ‵ ftrue) ∷ ‵ Own₀ ∷ ‵ Own₁ ∷ []))

@@ -80,7 +80,7 @@ module _ {M : Type 1} (𝓤 : URA M) (H : Heap 𝓤) (A : Atoms 𝓤) (W : Given
   mach = LL.val D L d
 
   abbrev v : Val
-  v = sliceVal (d .words .ptr) (length (d .words .now))
+  v = sliceVal (d .heap .ptr) (length (d .heap .now))
 
   abbrev pv : Val
   pv = EL.val P.the-type P′.the-laws (d .place)
@@ -95,18 +95,18 @@ module _ {M : Type 1} (𝓤 : URA M) (H : Heap 𝓤) (A : Atoms 𝓤) (W : Given
   Own = B (κ, tt) .own d (mach ∷ [])
 
   abbrev vd : Values (D .parts)
-  vd = (d .words, (d .place, tt))
+  vd = (d .heap, (d .place, tt))
 
   abbrev passed : Vals callee.signature (κ, tt)
   passed = (v ∷ [], (pv ∷ [], (vint w64 field ∷ [], tt)))
 
   abbrev to : Callee 𝓤 H A mem run .Ghost
-  to = (((κ, tt), (q, tt), tt, (d .words, (d .place, (field, tt))), passed), tt)
+  to = (((κ, tt), (q, tt), tt, (d .heap, (d .place, (field, tt))), passed), tt)
 
-  asked : ent 𝓤 (onEntry 𝓤 H A callee.signature (κ, tt) (q, tt) (d .words, (d .place, (field, tt))) passed) (Callee 𝓤 H A mem run .pre to)
+  asked : ent 𝓤 (onEntry 𝓤 H A callee.signature (κ, tt) (q, tt) (d .heap, (d .place, (field, tt))) passed) (Callee 𝓤 H A mem run .pre to)
   asked =
       qed W ((‵ (flft κ q) ⊛ ‵ ftrue) ∷
-      ‵ (owns (ShrSlice (named 0) κ u32 ∷ P.the-row ∷ usize ∷ []) (d .words, (d .place, (field, tt))) passed) ∷ []) ∵
+      ‵ (owns (ShrSlice (named 0) κ u32 ∷ P.the-row ∷ usize ∷ []) (d .heap, (d .place, (field, tt))) passed) ∷ []) ∵
       join ! $ frame ! $ done !
 
   apart : Is (B (κ, tt)) d (mach ∷ [])
@@ -118,21 +118,21 @@ module _ {M : Type 1} (𝓤 : URA M) (H : Heap 𝓤) (A : Atoms 𝓤) (W : Given
       use1 W (‵ Own ⊛ ‵ Own) (LL.copy D (T′.the-copy (namedLft 1 0 tt (κ, tt))) 𝓤 H A W .twice d (mach ∷ [])) $
       split ! $
       use1 W (given (mach ∷ [] ≡ mach ∷ []) (‵ (all-own (D .parts) L vd))) (own-open 𝓤 H A W D L vd mach) $ learn ! (λ _.
-      use1 W (‵ (ownAt (D .parts) L 0 (d .words)) ⊛ ‵ (rest (D .parts) L 0 vd)) (own-out 𝓤 H A W (D .parts) L 0 vd) $
+      use1 W (‵ (ownAt (D .parts) L 0 (d .heap)) ⊛ ‵ (rest (D .parts) L 0 vd)) (own-out 𝓤 H A W (D .parts) L 0 vd) $
       split ! $
-      -- [what words owns; the rest; what the struct owns; the token]
+      -- [what heap owns; the rest; what the struct owns; the token]
       move ! (1 ∷ []) $ drop ! $ nothing ! $ owned ! usize (Is usize) (uint-makes 𝓤 H A W w64) field _ (refl, field-fits) $ fjoin ! $
       owned ! P.the-row (Is P.the-row) (EL.makes P.the-type P′.the-plain 𝓤 H A) (d .place) (pv ∷ [])
       (LL.owed D L d _ g .1 .0) $ fjoin ! $ move ! (1 ∷ 0 ∷ []) $ fjoin ! $
       move ! (2 ∷ 0 ∷ []) $ use2 W (raw (Callee 𝓤 H A mem run .pre to)) asked $ frame ! $ done !)
 
   abbrev found : Answer
-  found = Windows.windowWord (now (d .words)) (d .place) field
+  found = Windows.windowWord (now (d .heap)) (d .place) field
 
   said : (r : Answer)
-      → ent 𝓤 (ensured 𝓤 H A callee.ended (callee.clauses 𝓤 H A mem run) (κ, tt) (d .words, (d .place, (field, tt))) tt r)
+      → ent 𝓤 (ensured 𝓤 H A callee.ended (callee.clauses 𝓤 H A mem run) (κ, tt) (d .heap, (d .place, (field, tt))) tt r)
       (fact 𝓤 (r ≡ found))
-  said r = exE 𝓤 _ (λ ws. snd∗ 𝓤 (sem 𝓤 H A (lasts callee.ended (κ, tt) (d .words, (d .place, (field, tt))) ws)) (fact 𝓤 (r ≡ found)))
+  said r = exE 𝓤 _ (λ ws. snd∗ 𝓤 (sem 𝓤 H A (lasts callee.ended (κ, tt) (d .heap, (d .place, (field, tt))) ws)) (fact 𝓤 (r ≡ found)))
 
   exits : (r : Answer) (u : Val) → r ≡ found
       → ent 𝓤 (⋆ 𝓤 H A (‵ (S.the-row .own r (u ∷ [])) ∷ (‵ (flft κ q) ⊛ ‵ ftrue) ∷ ‵ Own ∷ [])) (Post u)
@@ -169,7 +169,7 @@ module _ {M : Type 1} (𝓤 : URA M) (H : Heap 𝓤) (A : Atoms 𝓤) (W : Given
         (some (λ (r : Answer).
         ((‵ (flft κ q) ⊛ ‵ ftrue) ⊛ ‵ (S.the-row .own r (u ∷ []))) ⊛
         raw (ensured 𝓤 H A callee.ended (callee.clauses 𝓤 H A mem run) (κ, tt)
-        (d .words, (d .place, (field, tt))) tt r)))) (id⊢ 𝓤 _) $ await ! tt $ pick ! (λ r.
+        (d .heap, (d .place, (field, tt))) tt r)))) (id⊢ 𝓤 _) $ await ! tt $ pick ! (λ r.
         split ! $ move ! (1 ∷ []) $ use1 W (raw (fact 𝓤 (r ≡ found))) (said r) $ heard ! (r ≡ found) (λ e. split ! $ move ! (1 ∷ []) $
         peeks ! S.the-row (Is S.the-row) (shows 𝓤 H A S.the-row) r (u ∷ []) (λ is.
         -- [the result; the token; what the struct owns; _4(3); _3(5); _2(7); _1(9); room for _0(11)]

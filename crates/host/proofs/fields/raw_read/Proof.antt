@@ -3,7 +3,7 @@ use mathlib.Core.Path.{_≡_}
 use contract.Running.{givenOf, tables, tablesOf}
 use denote.Triple.Spec.{tripleOf}
 use denote.Triple.Table.{entered, cited}
-use Rattle.model.specs.Words.{lent}
+use Rattle.model.specs.Words.{stateOf}
 use Rattle.model.specs.Headers as Layouts
 use Rattle.model.specs.Answers.{says}
 use Rattle.model.specs.Calls as Calls
@@ -25,7 +25,7 @@ raw-read-spec 𝓤 H 𝓜 𝓖 𝓡 =
     (tables 𝓤 H 𝓜 𝓡 code.env .C) (tables 𝓤 H 𝓜 𝓡 code.env .Λ) #self code.function (code.unfolded 𝓤 H 𝓜 𝓡)
     (walk.thin-meets answered usize-by-value usize-by-value
     (λ object field heap roots q a q′.
-    says a (lent heap roots q′) ≡ Calls.rawRead Layouts.tuple object field (lent heap roots q))
+    says a (stateOf heap roots q′) ≡ Calls.rawRead Layouts.tuple object field (stateOf heap roots q))
     #callee 𝓤 H (𝓖 .A) (givenOf 𝓤 H 𝓜 𝓖) (tablesOf 𝓤 H 𝓜 (tables 𝓤 H 𝓜 𝓡 code.env))
     (cited 𝓤 H (tripleOf 𝓤 H (𝓖 .A) callee.signature (callee.spec 𝓤 H (𝓖 .A) (𝓜 .mem) (𝓡 .run)))
     𝓜 𝓡 code.env #callee callee-def.routine code.calls-objects·raw-read (callee-thm.met 𝓤 H 𝓜 𝓖 𝓡)))

@@ -3,16 +3,16 @@ use mathlib.Core.Path.{_≡_}
 use contract.Running.{givenOf, tables, tablesOf}
 use denote.Triple.Spec.{tripleOf}
 use denote.Triple.Table.{entered, cited}
-use Rattle.model.specs.Words.{lent}
+use Rattle.model.specs.Words.{stateOf}
 use Rattle.model.specs.Headers as Layouts
 use Rattle.model.specs.Answers.{says}
 use Rattle.model.specs.Calls as Calls
 use Rattle.host.proofs.ByValueTypes.{answered, usize-by-value}
 use Rattle.host.proofs.ThinNeither1 as walk
-use Rattle.views.proofs.inspect.inspect as callee
-use Rattle.views.proofs.inspect.inspect.Symbol as callee-def
-use Rattle.views.proofs.inspect.inspect.Symbol.{name as #callee}
-use Rattle.views.proofs.inspect.inspect.Met as callee-thm
+use Rattle.views.proofs.contents.inspect as callee
+use Rattle.views.proofs.contents.inspect.Symbol as callee-def
+use Rattle.views.proofs.contents.inspect.Symbol.{name as #callee}
+use Rattle.views.proofs.contents.inspect.Met as callee-thm
 use Rattle.host.proofs.roots.inspect.Key.{name as #self}
 use Rattle.host.proofs.roots.inspect as self
 use Rattle.host.proofs.roots.inspect.Statement as stated
@@ -25,7 +25,7 @@ inspect-spec 𝓤 H 𝓜 𝓖 𝓡 =
     (tables 𝓤 H 𝓜 𝓡 code.env .C) (tables 𝓤 H 𝓜 𝓡 code.env .Λ) #self code.function (code.unfolded 𝓤 H 𝓜 𝓡)
     (walk.thin-meets answered usize-by-value
     (λ root heap roots q a q′.
-    says a (lent heap roots q′) ≡ Calls.inspect Layouts.tuple root (lent heap roots q))
+    says a (stateOf heap roots q′) ≡ Calls.inspect Layouts.tuple root (stateOf heap roots q))
     #callee 𝓤 H (𝓖 .A) (givenOf 𝓤 H 𝓜 𝓖) (tablesOf 𝓤 H 𝓜 (tables 𝓤 H 𝓜 𝓡 code.env))
     (cited 𝓤 H (tripleOf 𝓤 H (𝓖 .A) callee.signature (callee.spec 𝓤 H (𝓖 .A) (𝓜 .mem) (𝓡 .run)))
-    𝓜 𝓡 code.env #callee callee-def.routine code.calls-views·inspect·inspect (callee-thm.met 𝓤 H 𝓜 𝓖 𝓡)))
+    𝓜 𝓡 code.env #callee callee-def.routine code.calls-views·contents·inspect (callee-thm.met 𝓤 H 𝓜 𝓖 𝓡)))

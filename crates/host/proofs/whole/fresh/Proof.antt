@@ -3,15 +3,15 @@ use mathlib.Core.Path.{_≡_}
 use contract.Running.{givenOf, tables, tablesOf}
 use denote.Triple.Spec.{tripleOf}
 use denote.Triple.Table.{entered, cited}
-use Rattle.model.specs.Words.{lent}
+use Rattle.model.specs.Words.{stateOf}
 use Rattle.model.specs.Answers.{says}
 use Rattle.model.specs.Calls as Calls
 use Rattle.host.proofs.ByValueTypes.{answered}
 use Rattle.host.proofs.ThinHeap0 as walk
-use Rattle.access.proofs.fresh.fresh as callee
-use Rattle.access.proofs.fresh.fresh.Symbol as callee-def
-use Rattle.access.proofs.fresh.fresh.Symbol.{name as #callee}
-use Rattle.access.proofs.fresh.fresh.Met as callee-thm
+use Rattle.blind.proofs.beginning.fresh as callee
+use Rattle.blind.proofs.beginning.fresh.Symbol as callee-def
+use Rattle.blind.proofs.beginning.fresh.Symbol.{name as #callee}
+use Rattle.blind.proofs.beginning.fresh.Met as callee-thm
 use Rattle.host.proofs.whole.fresh.Key.{name as #self}
 use Rattle.host.proofs.whole.fresh as self
 use Rattle.host.proofs.whole.fresh.Statement as stated
@@ -24,7 +24,7 @@ fresh-spec 𝓤 H 𝓜 𝓖 𝓡 =
     (tables 𝓤 H 𝓜 𝓡 code.env .C) (tables 𝓤 H 𝓜 𝓡 code.env .Λ) #self code.function (code.unfolded 𝓤 H 𝓜 𝓡)
     (walk.thin-meets answered
     (λ heap roots q a heap′ q′.
-    says a (lent heap′ roots q′) ≡ Calls.fresh (lent heap roots q))
+    says a (stateOf heap′ roots q′) ≡ Calls.fresh (stateOf heap roots q))
     #callee 𝓤 H (𝓖 .A) (givenOf 𝓤 H 𝓜 𝓖) (tablesOf 𝓤 H 𝓜 (tables 𝓤 H 𝓜 𝓡 code.env))
     (cited 𝓤 H (tripleOf 𝓤 H (𝓖 .A) callee.signature (callee.spec 𝓤 H (𝓖 .A) (𝓜 .mem) (𝓡 .run)))
-    𝓜 𝓡 code.env #callee callee-def.routine code.calls-access·fresh·fresh (callee-thm.met 𝓤 H 𝓜 𝓖 𝓡)))
+    𝓜 𝓡 code.env #callee callee-def.routine code.calls-blind·beginning·fresh (callee-thm.met 𝓤 H 𝓜 𝓖 𝓡)))

@@ -2,7 +2,7 @@
 use native.Mathlib.Omega.{arith}
 use Rattle.model.specs.declared.Call.the-variants as Ask
 use Rattle.model.specs.Sessions.{step}
-use Rattle.crossing.specs.Numbers.{result}
+use Rattle.crossing.specs.Numbers.{resultOf}
 use Rattle.crossing.proofs.Crosses.{crosses, narrow}
 use borrow.Author.Needs.{needs}
 use Rattle.phachunoi.proofs.fields.phachunoi_load.Statement.{statement}
@@ -11,7 +11,7 @@ use Rattle.phachunoi.proofs.fields.phachunoi_load.Reads as reads
 use Rattle.phachunoi.proofs.fields.phachunoi_load.Lts as lts
 use Rattle.objects.proofs.load.Reads as load-reads
 use Rattle.crossing.proofs.record_of.Reads as record-of-reads
-use Rattle.crossing.proofs.result.Reads as result-reads
+use Rattle.crossing.proofs.result_of.Reads as result-of-reads
 
 record-of-requires : tie.Need-record-of-requires
 record-of-requires c κs = search needs
@@ -28,12 +28,12 @@ returns c =
     let called = c .before .before .before in
     let crossed = called .before in
     let a = crossed .before .before .before .before .args in
-    crosses result (a .«record») (a .heap .now) (a .roots .now) (Ask.Load (a .object) (a .field) (a .to))
-    (crossed .record-of .ensures) (called .load .ensures) (c .result .ensures)
+    crosses resultOf (a .«record») (a .heap .now) (a .roots .now) (Ask.Load (a .object) (a .field) (a .to))
+    (crossed .record-of .ensures) (called .load .ensures) (c .result-of .ensures)
 
-result-requires : tie.Need-result-requires
+result-of-requires : tie.Need-result-of-requires
 unfolding step
-result-requires c κs =
+result-of-requires c κs =
     let called = c .before .before in
     let crossed = called .before in
     let start = crossed .before .before .before .before in
@@ -43,4 +43,4 @@ result-requires c κs =
 
 pub phachunoi-load-spec : {M : Type 1} → statement M
 phachunoi-load-spec =
-    tie.close (tie.spec record-of-requires load-requires result-requires same-length returns)
+    tie.close (tie.spec record-of-requires load-requires result-of-requires same-length returns)

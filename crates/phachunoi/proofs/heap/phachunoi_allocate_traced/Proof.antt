@@ -7,7 +7,7 @@ use Rattle.model.specs.declared.Call.the-variants as Ask
 use Rattle.model.specs.declared.Kind.the-variants.{Traced}
 use Rattle.model.specs.Sessions.{step}
 use Rattle.placing.specs.Placing.{atOnce}
-use Rattle.crossing.specs.Numbers.{result}
+use Rattle.crossing.specs.Numbers.{resultOf}
 use Rattle.crossing.proofs.Crosses.{crosses, narrow}
 use Rattle.phachunoi.proofs.AtOnce.{at-once-crosses, at-once-narrow}
 use borrow.Author.Needs.{needs}
@@ -17,7 +17,7 @@ use Rattle.phachunoi.proofs.heap.phachunoi_allocate_traced.Reads as rea
 use Rattle.phachunoi.proofs.heap.phachunoi_allocate_traced.Lts as lts
 use Rattle.crossing.proofs.done_with.Reads as done-with-reads
 use Rattle.crossing.proofs.record_of.Reads as record-of-reads
-use Rattle.crossing.proofs.result.Reads as result-reads
+use Rattle.crossing.proofs.result_of.Reads as result-of-reads
 use Rattle.allocator.proofs.allocate.Reads as allocate-reads
 use Rattle.placing.proofs.at_once.allocate.Reads as at-once-reads
 use Rattle.placing.proofs.at_once.fits.Reads as fits-reads
@@ -72,9 +72,9 @@ record-of-requires-2 c κs = search needs
 allocate-requires-2 : tie.Need-allocate-requires-2
 allocate-requires-2 c κs = search needs
 
-result-requires : tie.Need-result-requires
+result-of-requires : tie.Need-result-of-requires
 unfolding step
-result-requires c κs =
+result-of-requires c κs =
     let called = c .before .before .before .before in
     let crossed = called .before in
     let start = crossed .before .before .before .before .before .before .before .before in
@@ -94,8 +94,8 @@ returns-2 c =
     let called = c .before .before .before .before .before in
     let crossed = called .before in
     let a = crossed .before .before .before .before .before .before .before .before .args in
-    crosses result (a .«record») (a .heap .now) (a .roots .now) (Ask.Allocate Traced (a .fields) (a .to))
-    (crossed .record-of2 .ensures) (called .allocate2 .ensures) (c .result .ensures)
+    crosses resultOf (a .«record») (a .heap .now) (a .roots .now) (Ask.Allocate Traced (a .fields) (a .to))
+    (crossed .record-of2 .ensures) (called .allocate2 .ensures) (c .result-of .ensures)
 
 pub phachunoi-allocate-traced-spec : {M : Type 1} → statement M
 phachunoi-allocate-traced-spec =
@@ -110,7 +110,7 @@ phachunoi-allocate-traced-spec =
     returns
     record-of-requires-2
     allocate-requires-2
-    result-requires
+    result-of-requires
     same-length-3
     same-length-4
     returns-2)

@@ -2,14 +2,14 @@
 use native.Mathlib.Omega.{arith}
 use Rattle.model.specs.declared.Call.the-variants as Ask
 use Rattle.model.specs.Sessions.{step}
-use Rattle.crossing.specs.Numbers.{collected}
+use Rattle.crossing.specs.Numbers.{collectedOf}
 use Rattle.crossing.proofs.Crosses.{crosses, narrow}
 use borrow.Author.Needs.{needs}
 use Rattle.phachunoi.proofs.heap.phachunoi_collect.Statement.{statement}
 use Rattle.phachunoi.proofs.heap.phachunoi_collect.Tie as tie
 use Rattle.phachunoi.proofs.heap.phachunoi_collect.Reads as reads
 use Rattle.phachunoi.proofs.heap.phachunoi_collect.Lts as lts
-use Rattle.crossing.proofs.collected.Reads as collected-reads
+use Rattle.crossing.proofs.collected_of.Reads as collected-of-reads
 use Rattle.crossing.proofs.record_of.Reads as record-of-reads
 use Rattle.collector.proofs.collect.Reads as collect-reads
 
@@ -31,12 +31,12 @@ returns c =
     let called = c .before .before .before .before .before in
     let crossed = called .before in
     let a = crossed .before .before .before .before .before .args in
-    crosses collected (a .«record») (a .heap .now) (a .roots .now) Ask.Collect
-    (crossed .record-of .ensures) (called .collect .ensures) (c .collected .ensures)
+    crosses collectedOf (a .«record») (a .heap .now) (a .roots .now) Ask.Collect
+    (crossed .record-of .ensures) (called .collect .ensures) (c .collected-of .ensures)
 
-collected-requires : tie.Need-collected-requires
+collected-of-requires : tie.Need-collected-of-requires
 unfolding step
-collected-requires c κs =
+collected-of-requires c κs =
     let called = c .before .before .before .before in
     let crossed = called .before in
     let start = crossed .before .before .before .before .before in
@@ -50,7 +50,7 @@ phachunoi-collect-spec =
     (tie.spec
     record-of-requires
     collect-requires
-    collected-requires
+    collected-of-requires
     same-length
     same-length-2
     returns)

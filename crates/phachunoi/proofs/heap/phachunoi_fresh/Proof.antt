@@ -6,8 +6,8 @@ use Rattle.phachunoi.proofs.heap.phachunoi_fresh.Statement.{statement}
 use Rattle.phachunoi.proofs.heap.phachunoi_fresh.Tie as tie
 use Rattle.phachunoi.proofs.heap.phachunoi_fresh.Reads as reads
 use Rattle.phachunoi.proofs.heap.phachunoi_fresh.Lts as lts
-use Rattle.access.proofs.fresh.fresh.Reads as fresh-reads
-use Rattle.crossing.proofs.fresh_result.Reads as fresh-result-reads
+use Rattle.blind.proofs.beginning.fresh.Reads as fresh-reads
+use Rattle.crossing.proofs.fresh_result_of.Reads as fresh-result-of-reads
 use Rattle.crossing.proofs.record_of.Reads as record-of-reads
 
 slice-aggregate-fresh : tie.Need-slice-aggregate-fresh
@@ -19,8 +19,8 @@ record-of-requires c κs = search needs
 fresh-requires : tie.Need-fresh-requires
 fresh-requires c κs = search needs
 
-fresh-result-requires : tie.Need-fresh-result-requires
-fresh-result-requires c κs =
+fresh-result-of-requires : tie.Need-fresh-result-of-requires
+fresh-result-of-requires c κs =
     let called = c .before .before in
     let crossed = called .before in
     let start = crossed .before .before .before .before in
@@ -37,7 +37,7 @@ returns c =
     let crossed = called .before in
     let a = crossed .before .before .before .before .args in
     fresh-crosses (a .heap .now) (crossed .record-of .result) (a .«record»)
-    (called .fresh .ensures) (c .fresh-result .ensures)
+    (called .fresh .ensures) (c .fresh-result-of .ensures)
 
 pub phachunoi-fresh-spec : {M : Type 1} → statement M
 phachunoi-fresh-spec =
@@ -46,6 +46,6 @@ phachunoi-fresh-spec =
     slice-aggregate-fresh
     record-of-requires
     fresh-requires
-    fresh-result-requires
+    fresh-result-of-requires
     same-length
     returns)

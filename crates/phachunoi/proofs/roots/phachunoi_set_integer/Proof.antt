@@ -4,16 +4,16 @@ use mir.Syntax.{w64}
 use mir.ValLaws.{toZ-ofZ}
 use Rattle.model.specs.declared.Call.the-variants as Ask
 use Rattle.model.specs.Sessions.{step}
-use Rattle.crossing.specs.Numbers.{result}
+use Rattle.crossing.specs.Numbers.{resultOf}
 use Rattle.crossing.proofs.Crosses.{crosses, narrow}
 use borrow.Author.Needs.{needs}
 use Rattle.phachunoi.proofs.roots.phachunoi_set_integer.Statement.{statement}
 use Rattle.phachunoi.proofs.roots.phachunoi_set_integer.Tie as tie
 use Rattle.phachunoi.proofs.roots.phachunoi_set_integer.Reads as reads
 use Rattle.phachunoi.proofs.roots.phachunoi_set_integer.Lts as lts
-use Rattle.integers.proofs.set_integer.set_integer.Reads as set-integer-reads
+use Rattle.blind.proofs.integer.set_integer.Reads as set-integer-reads
 use Rattle.crossing.proofs.record_of.Reads as record-of-reads
-use Rattle.crossing.proofs.result.Reads as result-reads
+use Rattle.crossing.proofs.result_of.Reads as result-of-reads
 
 record-of-requires : tie.Need-record-of-requires
 record-of-requires c κs = search needs
@@ -32,12 +32,12 @@ returns c =
     let start = crossed .before .before .before .before in
     let a = start .args in
     let v = toZ-ofZ w64 (a .value) (start .fits .value) in
-    crosses result (a .«record») (a .heap .now) (a .roots .now) (Ask.SetInteger (a .to) (a .value))
-    (crossed .record-of .ensures) (rw v at (called .set-integer .ensures)) (c .result .ensures)
+    crosses resultOf (a .«record») (a .heap .now) (a .roots .now) (Ask.SetInteger (a .to) (a .value))
+    (crossed .record-of .ensures) (rw v at (called .set-integer .ensures)) (c .result-of .ensures)
 
-result-requires : tie.Need-result-requires
+result-of-requires : tie.Need-result-of-requires
 unfolding step
-result-requires c κs =
+result-of-requires c κs =
     let called = c .before .before in
     let crossed = called .before in
     let start = crossed .before .before .before .before in
@@ -49,4 +49,4 @@ result-requires c κs =
 pub phachunoi-set-integer-spec : {M : Type 1} → statement M
 phachunoi-set-integer-spec =
     tie.close
-    (tie.spec record-of-requires set-integer-requires result-requires same-length returns)
+    (tie.spec record-of-requires set-integer-requires result-of-requires same-length returns)

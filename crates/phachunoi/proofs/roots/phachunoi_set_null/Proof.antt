@@ -2,16 +2,16 @@
 use native.Mathlib.Omega.{arith}
 use Rattle.model.specs.declared.Call.the-variants as Ask
 use Rattle.model.specs.Sessions.{step}
-use Rattle.crossing.specs.Numbers.{result}
+use Rattle.crossing.specs.Numbers.{resultOf}
 use Rattle.crossing.proofs.Crosses.{crosses, narrow}
 use borrow.Author.Needs.{needs}
 use Rattle.phachunoi.proofs.roots.phachunoi_set_null.Statement.{statement}
 use Rattle.phachunoi.proofs.roots.phachunoi_set_null.Tie as tie
 use Rattle.phachunoi.proofs.roots.phachunoi_set_null.Reads as reads
 use Rattle.phachunoi.proofs.roots.phachunoi_set_null.Lts as lts
-use Rattle.access.proofs.roots.set_null.Reads as set-null-reads
+use Rattle.blind.proofs.roots.set_null.Reads as set-null-reads
 use Rattle.crossing.proofs.record_of.Reads as record-of-reads
-use Rattle.crossing.proofs.result.Reads as result-reads
+use Rattle.crossing.proofs.result_of.Reads as result-of-reads
 
 record-of-requires : tie.Need-record-of-requires
 record-of-requires c κs = search needs
@@ -28,12 +28,12 @@ returns c =
     let called = c .before .before .before in
     let crossed = called .before in
     let a = crossed .before .before .before .before .args in
-    crosses result (a .«record») (a .heap .now) (a .roots .now) (Ask.SetNull (a .to))
-    (crossed .record-of .ensures) (called .set-null .ensures) (c .result .ensures)
+    crosses resultOf (a .«record») (a .heap .now) (a .roots .now) (Ask.SetNull (a .to))
+    (crossed .record-of .ensures) (called .set-null .ensures) (c .result-of .ensures)
 
-result-requires : tie.Need-result-requires
+result-of-requires : tie.Need-result-of-requires
 unfolding step
-result-requires c κs =
+result-of-requires c κs =
     let called = c .before .before in
     let crossed = called .before in
     let start = crossed .before .before .before .before in
@@ -43,4 +43,4 @@ result-requires c κs =
 
 pub phachunoi-set-null-spec : {M : Type 1} → statement M
 phachunoi-set-null-spec =
-    tie.close (tie.spec record-of-requires set-null-requires result-requires same-length returns)
+    tie.close (tie.spec record-of-requires set-null-requires result-of-requires same-length returns)

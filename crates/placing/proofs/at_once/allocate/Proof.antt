@@ -1,6 +1,6 @@
 -- `placing::at_once::allocate` meets its contract: the object is placed.
 use Rattle.model.specs.Headers.{tuple}
-use Rattle.model.specs.Words.{State, lent}
+use Rattle.model.specs.Words.{State, stateOf}
 use Rattle.placing.proofs.PlacingLaws.{at-once-place, at-once-done}
 use borrow.Author.Needs.{needs}
 use Rattle.placing.proofs.at_once.allocate.Statement.{statement}
@@ -11,7 +11,7 @@ use Rattle.placing.proofs.place.Reads as place-reads
 
 -- what the call was lent
 abbrev start : tie.Start → State
-start c = lent (c .args .heap .now) (c .args .roots .now) (c .args .«record»)
+start c = stateOf (c .args .heap .now) (c .args .roots .now) (c .args .«record»)
 
 place-requires : tie.Need-place-requires
 place-requires c κs =

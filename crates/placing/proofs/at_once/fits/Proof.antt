@@ -20,7 +20,7 @@ returns-2 : tie.Need-returns-2
 returns-2 c =
     let shaped = c .before in
     let a = shaped .before .before .args in
-    rw (sym (shaped .before .bad-shape .ensures) ∙ shaped .if1 .left, le-leb (a .roots) (a .to) (c .if2 .taken))
+    rw (sym (shaped .before .bad-shape .ensures) ∙ shaped .if1 .left, le-leb (a .root-count) (a .to) (c .if2 .taken))
 
 spare-of-requires : tie.Need-spare-of-requires
 spare-of-requires c κs = numbers-spare _ _ _ (sym (c .before .before .bad-shape .ensures) ∙ c .before .if1 .left)

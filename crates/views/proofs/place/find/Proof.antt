@@ -4,7 +4,7 @@ use borrow.Author.Tests.{le-leb, lt-leb, not-false}
 use mathlib.Core.Path.{_≡_, sym, ap, _∙_}
 use mathlib.Core.Bool.{true, false, not}
 use lib.ListN.{length}
-use Rattle.model.specs.Words.{State, lent}
+use Rattle.model.specs.Words.{State, stateOf}
 use Rattle.model.specs.Headers.{tuple}
 use Rattle.model.specs.Objects.{names}
 use Rattle.model.specs.Shape.{badShape}
@@ -23,7 +23,7 @@ use Rattle.words.proofs.tuple.Tuple.index_of.Reads as index-of-reads
 
 -- what the call was lent
 abbrev start : tie.Start → State
-start c = lent (c .args .heap .now) (c .args .roots .now) (c .args .«record»)
+start c = stateOf (c .args .heap .now) (c .args .roots .now) (c .args .«record»)
 
 shape : (c : tie.Else1) → badShape (start (c .before .before .before .before)) ≡ false
 shape c = sym (c .before .bad-shape .ensures) ∙ c .if1 .left

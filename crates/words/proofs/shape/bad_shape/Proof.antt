@@ -3,9 +3,10 @@ use mathlib.Core.Path.{_≡_, sym, _∙_}
 use mathlib.Core.Bool.{false}
 use borrow.Author.Tests.{lt-ltb, le-ltb}
 use native.Mathlib.Omega.{arith}
-use Prim.Native.Nat.{_-_, _/_}
+use Rattle.model.specs.Words.{halfWordsOf, firstOf}
 use Rattle.model.specs.Shape.{badLength, badShapeOf}
 use Rattle.model.proofs.Shape.{GoodLength, good-length, first-most}
+use Rattle.words.proofs.FirstWords.{first-by-length}
 use borrow.Author.Needs.{needs}
 use Rattle.words.proofs.shape.bad_shape.Statement.{statement}
 use Rattle.words.proofs.shape.bad_shape.Tie as tie
@@ -13,13 +14,21 @@ use Rattle.words.proofs.shape.bad_shape.Reads as reads
 use Rattle.words.proofs.shape.bad_shape.Lts as lts
 use Rattle.words.proofs.shape.bad_length.Reads as bad-length-reads
 use Rattle.words.proofs.shape.first_of.Reads as first-of-reads
+use Rattle.words.proofs.shape.half_words.Reads as half-words-reads
 
 -- what is known of the length once it is not refused
-sized : (c : tie.Else1) → badLength (c .before .before .args .words) ≡ false
+sized : (c : tie.Else1) → badLength (c .before .before .args .length) ≡ false
 sized c = sym (c .before .bad-length .ensures) ∙ c .if1 .left
 
-good : (c : tie.Else1) → GoodLength (c .before .before .args .words)
+good : (c : tie.Else1) → GoodLength (c .before .before .args .length)
 good c = good-length _ (sized c)
+
+-- the half's first word, by the heap's length
+first : (c : tie.After-first-of) → let s = c .before .before .before .before .before in
+    c .first-of .result .0 ≡ firstOf (halfWordsOf (s .args .length)) (s .args .«record» .half)
+first c =
+    let s = c .before .before .before .before .before in
+    first-by-length (s .args .length) (s .args .«record» .half) (c .first-of .ensures) (c .before .half-words .ensures)
 
 bad-length-requires : tie.Need-bad-length-requires
 bad-length-requires c κs = search needs
@@ -32,41 +41,42 @@ returns-2 : tie.Need-returns-2
 unfolding badShapeOf
 returns-2 c = simp (sized (c .before), lt-ltb _ _ (c .if2 .taken))
 
-sub-size : tie.Need-sub-size
-sub-size c = omega (arith, good (c .before))
+half-words-requires : tie.Need-half-words-requires
+half-words-requires c κs = omega (arith, good (c .before))
 
 first-of-requires : tie.Need-first-of-requires
-first-of-requires c κs = good (c .before) .most
+first-of-requires c κs = omega (arith, c .half-words .ensures, good (c .before .before))
 
 returns-3 : tie.Need-returns-3
 unfolding badShapeOf
 returns-3 c =
     let halved = c .before in
-    let rooted = halved .before in
+    let rooted = halved .before .before in
     simp (
       sized (rooted .before),
       le-ltb _ _ (rooted .if2 .left),
-      lt-ltb _ _ (rw (halved .first-of .ensures) at (c .if3 .taken)),
+      lt-ltb _ _ (rw (first halved) at (c .if3 .taken)),
     )
 
 add-result : tie.Need-add-result
 add-result c =
     let halved = c .before in
-    let length = halved .before .before in
+    let length = halved .before .before .before in
     let s = length .before .before in
-    let most = first-most ((s .args .words - 1) / 2) (s .args .«record» .half) in
-    record { fits = omega (arith, halved .first-of .ensures, most, good length) }
+    let most = first-most (halfWordsOf (s .args .length)) (s .args .«record» .half) in
+    record { fits = omega (arith, halved .before .half-words .ensures, first halved, most, good length) }
 
 returns-4 : tie.Need-returns-4
 unfolding badShapeOf
 returns-4 c =
     let halved = c .before in
-    let rooted = halved .before in
+    let rooted = halved .before .before in
     simp (
       sized (rooted .before),
       le-ltb _ _ (rooted .if2 .left),
-      le-ltb _ _ (rw (halved .first-of .ensures) at (c .if3 .left)),
-      halved .first-of .ensures,
+      le-ltb _ _ (rw (first halved) at (c .if3 .left)),
+      first halved,
+      halved .before .half-words .ensures,
     )
 
 pub bad-shape-spec : {M : Type 1} → statement M
@@ -76,7 +86,7 @@ bad-shape-spec =
     bad-length-requires
     returns
     returns-2
-    sub-size
+    half-words-requires
     first-of-requires
     returns-3
     add-result

@@ -20,7 +20,7 @@ returns : tie.Need-returns
 returns c = search needs
 
 returns-2 : tie.Need-returns-2
-returns-2 c = sym (ap (firstOf (c .before .before .args .words)) (c .enum-told2 .given .1))
+returns-2 c = sym (ap (firstOf (c .before .before .args .half-words)) (c .enum-told2 .given .1))
 
 pub first-of-spec : {M : Type 1} → statement M
 first-of-spec = tie.close (tie.spec enum-told enum-told-2 add-t4 returns returns-2)

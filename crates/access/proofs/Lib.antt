@@ -1,3 +1,0 @@
-pub mod Refusing
-pub mod RootNumbers
-pub mod FreshHeap

@@ -1,0 +1,115 @@
+-- How the walk that marks and the walk over a run of words go on from one turn to the next, and one word and one object held
+-- against the marks, case by case. Assumes nothing.
+use Prim.Native.Nat.{ℕ, zero, suc, _+_, _-_, _%_, _≤_, _<_}
+use native.Mathlib.Omega.{arith}
+use mathlib.Core.Path.{_≡_, refl, sym, ap, _∙_}
+use mathlib.Core.Bool.{Bool, true, false, _&&_}
+use mathlib.Core.List.{List, _∷_}
+use lib.Dec.{eqb, ltb, leb}
+use lib.ListN.{length, set, take}
+use lib.Seq.{drop-cons}
+use borrow.Author.Tests.{lt-ltb, le-ltb, le-leb, lt-leb, eq-eqb, ne-eqb}
+use Rattle.model.specs.Headers.{Layout}
+use Rattle.model.specs.Objects.{isTraced, index, kind, fieldCount, size}
+use Rattle.model.specs.Soundness.{all}
+use Rattle.model.specs.Words.{at}
+use Rattle.runs.specs.Runs.{run}
+use Rattle.checker_marks.specs.declared.Part.{Part}
+use Rattle.checker_marks.specs.Marks.{markAt, marking, markHeaders, isValueByMarks, fieldsAreValuesByMarks}
+
+-- ---- a run of words, tested one after the other
+module _ (q : ℕ → Bool) (l : List ℕ) (from n i : ℕ) where
+  run-next : i < n → from + n ≤ length l → run l (from + i) (n - i) ≡ at l (from + i) ∷ run l (from + (i + 1)) (n - (i + 1))
+  run-next more fits =
+      let s : n - i ≡ suc (n - (i + 1)) = omega arith in
+      let t : suc (from + i) ≡ from + (i + 1) = omega arith in
+      ap (run l (from + i)) s
+      ∙ ap (take (suc (n - (i + 1)))) (drop-cons l (from + i) 0 (omega arith))
+      ∙ ap (λ (k : ℕ). at l (from + i) ∷ run l k (n - (i + 1))) t
+
+  run-turn : i < n → from + n ≤ length l → (b : Bool) → q (at l (from + i)) ≡ b
+      → all q (run l (from + i) (n - i)) ≡ (b && all q (run l (from + (i + 1)) (n - (i + 1))))
+  run-turn more fits b e = ap (all q) (run-next more fits) ∙ ap (λ (b : Bool). b && all q (run l (from + (i + 1)) (n - (i + 1)))) e
+
+  pub run-passed : i < n → from + n ≤ length l → q (at l (from + i)) ≡ true
+      → all q (run l (from + (i + 1)) (n - (i + 1))) ≡ all q (run l (from + i) (n - i))
+  run-passed more fits e = sym (run-turn more fits true e)
+
+  pub run-failed : i < n → from + n ≤ length l → q (at l (from + i)) ≡ false → all q (run l (from + i) (n - i)) ≡ false
+  run-failed more fits e = run-turn more fits false e
+
+  pub run-ended : n ≤ i → all q (run l (from + i) (n - i)) ≡ true
+  run-ended d = let z : n - i ≡ 0 = omega arith in rw z
+
+-- ---- the walk that marks
+module _ (Y : Layout) (p : Part) where
+  pub mark-ended : (n : ℕ) (H : List ℕ) (i : ℕ) → p .free .0 ≤ i → markHeaders Y n H p i ≡ marking H i
+  unfolding markHeaders
+  mark-ended zero H i d = refl
+  mark-ended (suc n) H i d = rw (le-ltb i (p .free .0) d)
+
+  pub mark-stopped : (n : ℕ) (H : List ℕ) (i : ℕ) → i < p .free .0 → Y .isHeader (at H i) ≡ false → markHeaders Y n H p i ≡ marking H i
+  unfolding markHeaders
+  mark-stopped zero H i d b = refl
+  mark-stopped (suc n) H i d b = rw (lt-ltb i (p .free .0) d, b)
+
+  mark-next : (n : ℕ) (H : List ℕ) (i : ℕ) → i < p .free .0 → Y .isHeader (at H i) ≡ true
+      → markHeaders Y (suc n) H p i ≡ markHeaders Y n (set H (markAt p i) 1) p (i + size Y H i)
+  unfolding markHeaders
+  mark-next n H i d b = rw (lt-ltb i (p .free .0) d, b)
+
+  -- as many turns as words are enough
+  mark-enough : (n m : ℕ) (H : List ℕ) (i : ℕ) → p .free .0 - i ≤ n → p .free .0 - i ≤ m → markHeaders Y n H p i ≡ markHeaders Y m H p i
+  unfolding markHeaders
+  mark-enough zero m H i a b = sym (mark-ended m H i (omega arith))
+  mark-enough (suc n) zero H i a b = mark-ended (suc n) H i (omega arith)
+  mark-enough (suc n) (suc m) H i a b = rw (mark-enough n m (set H (markAt p i) 1) (i + size Y H i) (omega arith) (omega arith))
+
+  pub mark-turn : (H : List ℕ) (i : ℕ) → i < p .free .0 → Y .isHeader (at H i) ≡ true → (n : ℕ) → n ≡ fieldCount Y H i
+      → markHeaders Y (p .free .0 - (i + (n + 1))) (set H (markAt p i) 1) p (i + (n + 1)) ≡ markHeaders Y (p .free .0 - i) H p i
+  mark-turn H i d b n c =
+      let s : p .free .0 - i ≡ suc (p .free .0 - i - 1) = omega arith in
+      rw c
+      (mark-enough (p .free .0 - (i + size Y H i)) (p .free .0 - i - 1) (set H (markAt p i) 1) (i + size Y H i) (omega arith) (omega arith)
+      ∙ sym (ap (λ (n : ℕ). markHeaders Y n H p i) s ∙ mark-next (p .free .0 - i - 1) H i d b))
+
+-- ---- one word against the marks
+module _ (Y : Layout) (H : List ℕ) (p : Part) (w : ℕ) where
+  pub value-odd : w % 2 ≡ 1 → isValueByMarks Y H p w ≡ true
+  unfolding isValueByMarks
+  value-odd o = rw (ne-eqb (w % 2) 0 (omega arith))
+
+  pub value-null : w ≡ 0 → isValueByMarks Y H p w ≡ true
+  unfolding isValueByMarks
+  value-null z = rw z
+
+  module _ (even : w % 2 ≡ 0) (some : w ≡ 0 → ⊥) where
+    pub value-askew : (w % 4 ≡ 0 → ⊥) → isValueByMarks Y H p w ≡ false
+    unfolding isValueByMarks
+    value-askew n = rw (eq-eqb (w % 2) 0 even, ne-eqb w 0 some, ne-eqb (w % 4) 0 n)
+
+    module _ (i : ℕ) (is : i ≡ index Y w) (four : w % 4 ≡ 0) where
+      value-there : isValueByMarks Y H p w ≡ (leb (p .first .0) i && ltb i (p .free .0) && eqb (at H (markAt p i)) 1)
+      unfolding isValueByMarks
+      value-there = rw (eq-eqb (w % 2) 0 even, ne-eqb w 0 some, eq-eqb (w % 4) 0 four, ← is)
+
+      pub value-low : i < p .first .0 → isValueByMarks Y H p w ≡ false
+      value-low l = value-there ∙ rw (lt-leb (p .first .0) i l)
+
+      pub value-high : p .first .0 ≤ i → p .free .0 ≤ i → isValueByMarks Y H p w ≡ false
+      value-high l m = value-there ∙ rw (le-leb (p .first .0) i l, le-ltb i (p .free .0) m)
+
+      pub value-marked : p .first .0 ≤ i → i < p .free .0 → isValueByMarks Y H p w ≡ eqb (at H (markAt p i)) 1
+      value-marked l m = value-there ∙ rw (le-leb (p .first .0) i l, lt-ltb i (p .free .0) m)
+
+-- ---- one object
+module _ (Y : Layout) (H : List ℕ) (p : Part) (i : ℕ) where
+  pub fields-untraced : isTraced (kind Y H i) ≡ false → fieldsAreValuesByMarks Y H p i ≡ true
+  unfolding fieldsAreValuesByMarks
+  fields-untraced k = rw k
+
+  pub fields-traced : isTraced (kind Y H i) ≡ true → (n : ℕ) → n ≡ fieldCount Y H i → (r : Bool)
+      → r ≡ all (isValueByMarks Y H p) (run H (i + 1) n)
+      → r ≡ fieldsAreValuesByMarks Y H p i
+  unfolding fieldsAreValuesByMarks
+  fields-traced k n c r e = rw k (rw c at e)

@@ -1,0 +1,17 @@
+-- What the promise of an exported call says of the slices that it was lent: they stand there by their names alone.
+use Prim.Native.Nat.{ℕ}
+use mathlib.Core.List.{List}
+use Rattle.model.specs.declared.Told.{Told}
+use Rattle.model.specs.Words.{State}
+use Rattle.model.specs.Answers.{Outcome}
+use Rattle.model.specs.Contracts.{Behind}
+use Rattle.crossing.specs.declared.CRecord.{CRecord}
+use Rattle.crossing.specs.Numbers.{Given, givenOf, calledOf}
+
+-- what the call returns, and the words that it leaves
+abbrev pub given : {T : Type 0} → T → Behind (List ℕ) → Behind (List ℕ) → Given T
+given r heap roots = givenOf r (heap .exit .now) (roots .exit .now)
+
+-- the model's call, given the words that it was lent and C's record
+abbrev pub called : {T : Type 0} → (Told → CRecord → T) → (State → Outcome State) → Behind (List ℕ) → Behind (List ℕ) → CRecord → Given T
+called returns f heap roots c = calledOf returns f (heap .entry .now) (roots .entry .now) c

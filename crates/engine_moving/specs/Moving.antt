@@ -1,0 +1,48 @@
+-- What the collector's first two steps do, as functions of the heap: one object moved, one word renamed. For any layout.
+use Prim.Native.Nat.{ℕ, _+_, _≤_, _<_}
+use mathlib.Core.Path.{_≡_}
+use mathlib.Core.Bool.{true, cond}
+use mathlib.Core.List.{List}
+use lib.ListN.{length, set}
+use Rattle.model.specs.Limits.{maxWords}
+use Rattle.model.specs.Words.{at}
+use Rattle.model.specs.Values.{isAddress}
+use Rattle.model.specs.Headers.{Layout}
+use Rattle.model.specs.Objects.{address, index, size}
+use Rattle.runs.specs.Runs.{copiedRun}
+use Rattle.engine_moving.specs.declared.Met.{Met}
+use Rattle.engine_moving.specs.declared.Met.the-variants.{Plain, Copied, Found}
+
+-- what renaming leaves: the heap, the new word, the next free index, and what the word led to
+pub record Left : Type 0 where
+  pub heap : List ℕ
+  pub word : ℕ
+  pub free : ℕ
+  pub met : Met
+
+abbrev pub left : List ℕ → ℕ → ℕ → Met → Left
+left h w f m = record { heap = h; word = w; free = f; met = m }
+
+module _ (Y : Layout) where
+  -- the object at i copied to f, and its header the mark of the copy's address
+  abbrev pub moved : List ℕ → ℕ → ℕ → List ℕ
+  moved h i f = set (copiedRun h i f (size Y h i)) i (Y .mark (address Y f))
+
+  unfoldable pub relocated : List ℕ → ℕ → ℕ → Left
+  relocated h i f =
+      cond (Y .isHeader (at h i))
+      (left (moved h i f) (address Y f) (f + size Y h i) Copied)
+      (left h (Y .unmark (at h i)) f Found)
+
+  unfoldable pub renamed : List ℕ → ℕ → ℕ → Left
+  renamed h w f = cond (isAddress w) (relocated h (index Y w) f) (left h w f Plain)
+
+  -- what keeps a move inside the heap, and the copy's address inside a word
+  pub record MayMove (h : List ℕ) (i f : ℕ) : Type 0 where
+    pub within : i < length h
+    pub whole : Y .isHeader (at h i) ≡ true → i + size Y h i ≤ length h
+    pub fits : Y .isHeader (at h i) ≡ true → f + size Y h i ≤ length h
+    pub near : f ≤ maxWords
+
+  abbrev pub MayRename : List ℕ → ℕ → ℕ → Type 0
+  MayRename h w f = isAddress w ≡ true → MayMove h (index Y w) f

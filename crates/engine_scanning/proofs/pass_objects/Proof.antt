@@ -1,0 +1,66 @@
+-- `engine_scanning::pass_objects` meets its contract. The invariant: to pass what is left gives what passing all gave.
+use Prim.Native.Nat.{_-_}
+use mathlib.Core.Path.{_≡_, refl, ap, _∙_}
+use lib.ListN.{length}
+use Rattle.model.specs.Headers.{tuple}
+use Rattle.engine_scanning.specs.Scanning.{between, ended, run, SafeRun}
+use Rattle.engine_scanning.proofs.ObjectLaws.{object-may, object-length, object-less, object-run, object-safe, objects-done}
+use Rattle.engine_scanning.proofs.pass_objects.Statement.{statement}
+use Rattle.engine_scanning.proofs.pass_objects.Tie as tie
+use Rattle.engine_scanning.proofs.pass_objects.Reads as reads
+use Rattle.engine_scanning.proofs.pass_objects.Lts as lts
+use Rattle.engine_scanning.proofs.pass_object.Reads as pass-object-reads
+
+abbrev Inv-loop : tie.InvT-loop
+Inv-loop heap₀ at₀ free₀ heap at free =
+    (run tuple (length heap - at .0) heap (between (at .0) (free .0))
+    ≡ run tuple (length heap₀ - at₀ .0) heap₀ (between (at₀ .0) (free₀ .0)))
+    × SafeRun tuple (length heap - at .0) heap (between (at .0) (free .0))
+    × (length heap ≡ length heap₀)
+
+abbrev μ-loop : tie.MeasureT-loop
+μ-loop heap₀ at₀ free₀ heap at free = length heap - at .0
+
+loop-holds : tie.Need-loop-holds Inv-loop μ-loop
+loop-holds c = (refl, c .before .pre, refl)
+
+pass-object-requires : tie.Need-pass-object-requires Inv-loop μ-loop
+pass-object-requires c κs = object-may _ _ _ _ (c .before .if1 .taken) (c .before .before .before .before .loop .inv .1)
+
+loop-less : tie.Need-loop-less Inv-loop μ-loop
+loop-less c =
+    let passed = c .before .before .before .before in
+    let more = passed .before .before in
+    let l = more .before .before .before .loop in
+    object-less tuple (l .heap) _ _ (more .if1 .taken) (l .inv .1) _ _ _ (passed .pass-object .ensures)
+
+loop-again : tie.Need-loop-again Inv-loop μ-loop
+loop-again c =
+    let passed = c .before .before .before .before in
+    let more = passed .before .before in
+    let l = more .before .before .before .loop in
+    let m = more .if1 .taken in
+    let e = passed .pass-object .ensures in (
+      object-run tuple (l .heap) _ _ m (l .inv .1) _ _ _ e ∙ l .inv .0,
+      object-safe tuple (l .heap) _ _ m (l .inv .1) _ _ _ e,
+      object-length tuple (l .heap) _ _ m (l .inv .1) _ _ _ e ∙ l .inv .2,
+    )
+
+same-length : tie.Need-same-length Inv-loop μ-loop
+same-length c = c .before .before .before .loop .inv .2
+
+returns : tie.Need-returns Inv-loop μ-loop
+returns c = objects-done _ _ _ _ _ (c .if1 .left) ∙ ap ended (c .before .before .before .loop .inv .0)
+
+pub pass-objects-spec : {M : Type 1} → statement M
+pass-objects-spec =
+    tie.close
+    (tie.spec
+    Inv-loop
+    μ-loop
+    loop-holds
+    pass-object-requires
+    loop-less
+    loop-again
+    same-length
+    returns)
