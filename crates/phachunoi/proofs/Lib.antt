@@ -1,1 +1,1 @@
-pub mod AtOnce
+pub mod Allocating

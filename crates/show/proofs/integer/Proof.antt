@@ -1,6 +1,6 @@
 -- `show::integer` ends and overflows nowhere.
 use native.Mathlib.Omega.{arith}
-use Rattle.integers.proofs.Signs.{negative, natural, down, below-is, size-is}
+use Rattle.integers.proofs.Signs.{negative, natural, down, below-is, magnitude-is}
 use borrow.Author.Needs.{needs}
 use Rattle.show.proofs.integer.Statement.{statement}
 use Rattle.show.proofs.integer.Tie as tie
@@ -43,7 +43,7 @@ cast-print-decimal : tie.Need-cast-print-decimal
 cast-print-decimal c =
     let f = c .before .fits .value in
     let b = natural _ f (c .if1 .left) in
-    rw (size-is _ f b) (tt, omega (arith, b .small))
+    rw (magnitude-is _ f b) (tt, omega (arith, b .small))
 
 print-decimal-requires-2 : tie.Need-print-decimal-requires-2
 print-decimal-requires-2 c κs = search needs

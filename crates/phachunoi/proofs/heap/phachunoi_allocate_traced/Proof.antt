@@ -3,13 +3,9 @@ use native.Mathlib.Omega.{arith}
 use mathlib.Core.Path.{_≡_, _∙_, sym}
 use mathlib.Core.Bool.{true}
 use lib.ListN.{length}
-use Rattle.model.specs.declared.Call.the-variants as Ask
 use Rattle.model.specs.declared.Kind.the-variants.{Traced}
-use Rattle.model.specs.Sessions.{step}
 use Rattle.placing.specs.Placing.{atOnce}
-use Rattle.crossing.specs.Numbers.{resultOf}
-use Rattle.crossing.proofs.Crosses.{crosses, narrow}
-use Rattle.phachunoi.proofs.AtOnce.{at-once-crosses, at-once-narrow}
+use Rattle.phachunoi.proofs.Allocating.{at-once-crosses, at-once-narrow, whole-crosses, whole-narrow}
 use borrow.Author.Needs.{needs}
 use Rattle.phachunoi.proofs.heap.phachunoi_allocate_traced.Statement.{statement}
 use Rattle.phachunoi.proofs.heap.phachunoi_allocate_traced.Tie as tie
@@ -44,10 +40,9 @@ done-with-requires c κs =
     let placed = c .before .before .before .before in
     let fitting = placed .before .before .before in
     let crossed = fitting .before .before in
-    let start = crossed .before .before .before in
-    let a = start .args in
-    at-once-narrow (a .«record») (a .heap .now) (a .roots .now) Traced (a .fields) (a .to)
-    (crossed .record-of .ensures) (fitted fitting) (placed .allocate .ensures) (omega (arith, start .good))
+    let s = crossed .before .before .before in
+    at-once-narrow Traced (s .args .«record») _ _ _ _
+    (crossed .record-of .ensures) (fitted fitting) (placed .allocate .ensures) (omega (arith, s .good))
 
 same-length : tie.Need-same-length
 same-length c = search needs
@@ -61,7 +56,7 @@ returns c =
     let fitting = placed .before .before .before in
     let crossed = fitting .before .before in
     let a = crossed .before .before .before .args in
-    at-once-crosses (a .«record») (a .heap .now) (a .roots .now) Traced (a .fields) (a .to)
+    at-once-crosses Traced (a .«record») _ _ _ _
     (crossed .record-of .ensures) (fitted fitting) (placed .allocate .ensures) (c .done-with .ensures)
 
 -- ---- by the whole call
@@ -73,14 +68,11 @@ allocate-requires-2 : tie.Need-allocate-requires-2
 allocate-requires-2 c κs = search needs
 
 result-of-requires : tie.Need-result-of-requires
-unfolding step
 result-of-requires c κs =
     let called = c .before .before .before .before in
     let crossed = called .before in
-    let start = crossed .before .before .before .before .before .before .before .before in
-    let a = start .args in
-    narrow (a .«record») (a .heap .now) (a .roots .now) (Ask.Allocate Traced (a .fields) (a .to))
-    (crossed .record-of2 .ensures) (called .allocate2 .ensures) (omega (arith, start .good))
+    let s = crossed .before .before .before .before .before .before .before .before in
+    whole-narrow Traced (s .args .«record») _ _ _ _ (crossed .record-of2 .ensures) (called .allocate2 .ensures) (omega (arith, s .good))
 
 same-length-3 : tie.Need-same-length-3
 same-length-3 c = search needs
@@ -89,13 +81,11 @@ same-length-4 : tie.Need-same-length-4
 same-length-4 c = search needs
 
 returns-2 : tie.Need-returns-2
-unfolding step
 returns-2 c =
     let called = c .before .before .before .before .before in
     let crossed = called .before in
     let a = crossed .before .before .before .before .before .before .before .before .args in
-    crosses resultOf (a .«record») (a .heap .now) (a .roots .now) (Ask.Allocate Traced (a .fields) (a .to))
-    (crossed .record-of2 .ensures) (called .allocate2 .ensures) (c .result-of .ensures)
+    whole-crosses Traced (a .«record») _ _ _ _ (crossed .record-of2 .ensures) (called .allocate2 .ensures) (c .result-of .ensures)
 
 pub phachunoi-allocate-traced-spec : {M : Type 1} → statement M
 phachunoi-allocate-traced-spec =

@@ -1,20 +1,20 @@
--- `show::words` ends.
+-- `show::run` ends.
 use Prim.Native.Nat.{_-_, _≤_}
 use lib.ListN.{length}
 use native.Mathlib.Omega.{arith}
 use borrow.Author.Needs.{needs}
-use Rattle.show.proofs.words.Statement.{statement}
-use Rattle.show.proofs.words.Tie as tie
-use Rattle.show.proofs.words.Reads as reads
-use Rattle.show.proofs.words.Lts as lts
+use Rattle.show.proofs.run.Statement.{statement}
+use Rattle.show.proofs.run.Tie as tie
+use Rattle.show.proofs.run.Reads as reads
+use Rattle.show.proofs.run.Lts as lts
 use Rattle.show.proofs.text.Reads as text-reads
 use Rattle.show.proofs.word.Reads as word-reads
 
 abbrev Inv-loop : tie.InvT-loop
-Inv-loop words i₀ t3 i = i ≤ length words
+Inv-loop run i₀ t3 i = i ≤ length run
 
 abbrev μ-loop : tie.MeasureT-loop
-μ-loop words i₀ t3 i = length words - i
+μ-loop run i₀ t3 i = length run - i
 
 loop-holds : tie.Need-loop-holds Inv-loop μ-loop
 loop-holds c = omega arith
@@ -46,8 +46,8 @@ loop-again c = omega arith
 returns : tie.Need-returns Inv-loop μ-loop
 returns c = search needs
 
-pub words-spec : {M : Type 1} → statement M
-words-spec =
+pub run-spec : {M : Type 1} → statement M
+run-spec =
     tie.close
     (tie.spec
     Inv-loop
