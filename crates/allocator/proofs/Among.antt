@@ -1,4 +1,4 @@
--- A collection that is lent the first roots, where these are all of them. Assumes nothing.
+-- A collection that is lent the first roots, where these are all of them.
 use Prim.Native.Nat.{ℕ}
 use native.Mathlib.Omega.{arith}
 use mathlib.Core.Path.{_≡_, ap, _∙_}

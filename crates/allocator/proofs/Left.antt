@@ -1,4 +1,4 @@
--- What a collection left, for the second try of an allocation. Assumes nothing.
+-- What a collection left, for the second try of an allocation.
 use Prim.Native.Nat.{ℕ}
 use mathlib.Core.Path.{_≡_, ap, sym, _∙_, subst}
 use mathlib.Core.Bool.{true}

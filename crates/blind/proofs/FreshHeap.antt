@@ -1,4 +1,4 @@
--- All words of a heap, cleared, and what fresh makes of them. Assumes nothing.
+-- All words of a heap, cleared, and what fresh makes of them.
 use Prim.Native.Nat.{ℕ}
 use native.Mathlib.Omega.{arith}
 use mathlib.Core.Path.{_≡_, sym, _∙_}

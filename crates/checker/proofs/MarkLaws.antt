@@ -1,5 +1,4 @@
 -- What the marks are: where the headers of the tiling stand, and nowhere else; and the used words stay. For any layout.
--- Assumes nothing.
 use Prim.Native.Nat.{ℕ, zero, suc, _+_, _≤_, _<_}
 use native.Mathlib.Omega.{arith}
 use mathlib.Core.Path.{_≡_, refl, sym, ap, _∙_}

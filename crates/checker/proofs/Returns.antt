@@ -1,4 +1,4 @@
--- A law for each return of the functions that only call others, over what those answered. Assumes nothing.
+-- A law for each return of the functions that only call others, over what those answered.
 use Prim.Native.Nat.{ℕ, _+_, _-_, _≤_}
 use native.Mathlib.Omega.{arith}
 use mathlib.Core.Path.{_≡_, sym, ap, _∙_, subst}

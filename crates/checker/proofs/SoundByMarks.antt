@@ -1,4 +1,4 @@
--- The test by marks is the definition of soundness, and clearing the marks gives the heap back. For any layout. Assumes nothing.
+-- The test by marks is the definition of soundness, and clearing the marks gives the heap back. For any layout.
 use Prim.Native.Nat.{ℕ, _+_, _%_, _≤_, _<_}
 use native.Mathlib.Omega.{arith}
 use mathlib.Core.Path.{_≡_, refl, sym, ap, _∙_}

@@ -1,5 +1,5 @@
 -- How the walk that marks and the walk over a run of words go on from one turn to the next, and one word and one object held
--- against the marks, case by case. Assumes nothing.
+-- against the marks, case by case.
 use Prim.Native.Nat.{ℕ, zero, suc, _+_, _-_, _%_, _≤_, _<_}
 use native.Mathlib.Omega.{arith}
 use mathlib.Core.Path.{_≡_, refl, sym, ap, _∙_}

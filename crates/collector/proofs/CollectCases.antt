@@ -1,4 +1,4 @@
--- Collect by what its tests come to. Assumes nothing.
+-- Collect by what its tests come to.
 use mathlib.Core.Path.{_≡_}
 use mathlib.Core.Bool.{true, false}
 use Rattle.model.specs.declared.Refusal.the-variants as Why

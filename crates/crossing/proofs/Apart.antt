@@ -1,4 +1,4 @@
--- Answers and windows can be told apart in what C gets. Assumes nothing.
+-- Answers and windows can be told apart in what C gets.
 use Prim.Native.Nat.{ℕ, _+_}
 use native.Mathlib.Omega.{arith}
 use mathlib.Core.Path.{_≡_, sym, ap}

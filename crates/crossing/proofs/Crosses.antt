@@ -1,5 +1,5 @@
 -- The law that every exported call cites: a call that is made with the record taken from C's numbers, and whose answer and record
--- go back as numbers, is the model's call given those numbers. Assumes nothing.
+-- go back as numbers, is the model's call given those numbers.
 use Prim.Native.Nat.{ℕ}
 use native.Mathlib.Omega.{arith}
 use mathlib.Core.Path.{_≡_, refl, sym, ap, _∙_, subst}

@@ -1,4 +1,4 @@
--- The free index that a call leaves, and the index of a window's first word, are numbers of 32 bits. Assumes nothing.
+-- The free index that a call leaves, and the index of a window's first word, are numbers of 32 bits.
 use Prim.Native.Nat.{ℕ, _+_, _≤_, _<_}
 use native.Mathlib.Omega.{arith}
 use mathlib.Core.Path.{_≡_, refl}

@@ -1,4 +1,4 @@
--- The laws of specs/Laws. Assumes nothing.
+-- The laws of specs/Laws.
 use Prim.Native.Nat.{_+_, _≤_}
 use native.Mathlib.Omega.{arith}
 use mathlib.Core.Path.{_≡_, refl, sym, ap, _∙_}

@@ -1,4 +1,4 @@
--- Every call tests SHAPE first, and a free index of 0 is SHAPE in every heap. Assumes nothing.
+-- Every call tests SHAPE first, and a free index of 0 is SHAPE in every heap.
 use Prim.Native.Nat.{ℕ, _+_}
 use mathlib.Core.Path.{_≡_, refl}
 use mathlib.Core.Bool.{Bool, true, _||_}

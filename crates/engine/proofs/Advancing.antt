@@ -1,4 +1,4 @@
--- One more word counted as passed midway in a collection: one that stays as it is, or one that is written. Assumes nothing.
+-- One more word counted as passed midway in a collection: one that stays as it is, or one that is written.
 use Prim.Native.Nat.{ℕ, suc, _+_, _≤_, _<_}
 use native.Mathlib.Nat.{add-zero}
 use native.Mathlib.Omega.{arith}

@@ -1,4 +1,4 @@
--- What the parts of `collect_sound` ask and leave, from what its calls answer; for any lawful layout. Assumes nothing.
+-- What the parts of `collect_sound` ask and leave, from what its calls answer; for any lawful layout.
 use Prim.Native.Nat.{ℕ, _+_, _-_, _≤_}
 use native.Mathlib.Omega.{arith}
 use mathlib.Core.Path.{_≡_, sym, ap, _∙_}

@@ -1,4 +1,4 @@
--- Where the scan stands in the order of the copies, and how it goes on: past a header, a value, a raw word. Assumes nothing.
+-- Where the scan stands in the order of the copies, and how it goes on: past a header, a value, a raw word.
 use Prim.Native.Nat.{ℕ, suc, _+_, _-_, _≤_, _<_}
 use native.Mathlib.Omega.{arith}
 use mathlib.Core.Path.{_≡_, refl, sym, ap, _∙_}

@@ -1,5 +1,5 @@
 -- THE MIDDLE: after the roots and at most p words of the copies, heap, roots and record are exactly `during`; for every p, and
--- of any lawful layout. Assumes nothing.
+-- of any lawful layout.
 use Prim.Native.Nat.{ℕ, _+_, _-_, _≤_, _<_, min}
 use native.Mathlib.Nat.{zero-add}
 use native.Mathlib.Omega.{arith}

@@ -1,4 +1,4 @@
--- The state midway in a collection, word by word, and that a new object moved keeps it. Assumes nothing.
+-- The state midway in a collection, word by word, and that a new object moved keeps it.
 use Prim.Native.Nat.{ℕ, _+_, _-_, _≤_, _<_}
 use native.Mathlib.Nat.{add-zero}
 use native.Mathlib.Omega.{arith}

@@ -1,5 +1,4 @@
 -- One word passed midway in a collection: the scan stands one word further, at the order that the word's visit gives.
--- Assumes nothing.
 use Prim.Native.Nat.{ℕ, suc, _+_, _-_, _<_}
 use native.Mathlib.Nat.{add-zero}
 use native.Mathlib.Omega.{arith}

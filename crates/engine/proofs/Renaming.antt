@@ -1,4 +1,4 @@
--- One word renamed midway in a collection: the state is kept, at the order that the word's visit gives. Assumes nothing.
+-- One word renamed midway in a collection: the state is kept, at the order that the word's visit gives.
 use Prim.Native.Nat.{ℕ, _+_, _≤_}
 use native.Mathlib.Omega.{arith}
 use mathlib.Core.Path.{_≡_, ap, _∙_}

@@ -1,4 +1,4 @@
--- The roots renamed one after the other, and the parts of a whole collection in a row. Assumes nothing.
+-- The roots renamed one after the other, and the parts of a whole collection in a row.
 use Prim.Native.Nat.{ℕ, suc, _+_, _-_, _<_}
 use native.Mathlib.Numerals.{add-one}
 use native.Mathlib.Omega.{arith}

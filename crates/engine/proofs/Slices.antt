@@ -1,5 +1,4 @@
 -- The roots renamed, then any number of words passed: each leaves a state midway in the collection, and is safe.
--- Assumes nothing.
 use Prim.Native.Nat.{ℕ, zero, suc, _+_, _≤_, _<_, zero-le}
 use native.Mathlib.Nat.{add-zero}
 use native.Mathlib.Omega.{arith}

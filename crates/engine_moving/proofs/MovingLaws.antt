@@ -1,4 +1,4 @@
--- One object moved and one word renamed: each case of the two, and what they leave of the heap. Assumes nothing.
+-- One object moved and one word renamed: each case of the two, and what they leave of the heap.
 use Prim.Native.Nat.{ℕ, _+_, _≤_}
 use native.Mathlib.Omega.{arith}
 use native.Mathlib.Numerals.{add-one}

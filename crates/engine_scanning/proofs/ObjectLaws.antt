@@ -1,4 +1,4 @@
--- The words of one object passed: its fields one by one, raw words at once; and the next object. Assumes nothing.
+-- The words of one object passed: its fields one by one, raw words at once; and the next object.
 use Prim.Native.Nat.{ℕ, zero, suc, _+_, _-_, _≤_, _<_}
 use native.Mathlib.Nat.{add-zero}
 use native.Mathlib.Numerals.{add-one}

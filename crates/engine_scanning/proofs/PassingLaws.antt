@@ -1,4 +1,4 @@
--- One word passed: its three cases, and what each keeps. Assumes nothing.
+-- One word passed: its three cases, and what each keeps.
 use Prim.Native.Nat.{ℕ, _+_, _-_, _≤_}
 use native.Mathlib.Omega.{arith}
 use mathlib.Core.Path.{_≡_, refl, sym, ap, _∙_}

@@ -1,5 +1,4 @@
 -- Words passed one after the other: how a run goes on, and that it may be cut where all of its first part is passed.
--- Assumes nothing.
 use Prim.Native.Nat.{ℕ, zero, suc, _+_, _≤_, _<_}
 use native.Mathlib.Nat.{zero-add, suc-add, add-zero}
 use native.Mathlib.Omega.{arith}

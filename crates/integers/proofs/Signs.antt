@@ -1,5 +1,4 @@
 -- A signed number that was tested against 0: the natural number that it is made of, and what the code computes of it.
--- Assumes nothing.
 use Prim.Native.Nat.{ℕ, zero, suc, _<_, _^_}
 use native.Mathlib.Nat.{zero-add}
 use native.Mathlib.Omega.{arith}

@@ -1,4 +1,4 @@
--- An integer that was tagged, or found out of range. Assumes nothing.
+-- An integer that was tagged, or found out of range.
 use Prim.Native.Nat.{ℕ}
 use native.Mathlib.Omega.{arith}
 use mathlib.Core.Path.{_≡_, refl}

@@ -1,4 +1,4 @@
--- P5 in the middle of its collection, computed: after the roots, and with all four words passed. Assumes nothing.
+-- P5 in the middle of its collection, computed: after the roots, and with all four words passed.
 use Rattle.model.specs.Worked as Worked
 use mathlib.Core.Path.{_≡_, refl}
 use mathlib.Core.List.{[], _∷_}

@@ -1,4 +1,4 @@
--- The order of discovery is breadth-first: what stands earlier is no farther from the roots. Assumes nothing.
+-- The order of discovery is breadth-first: what stands earlier is no farther from the roots.
 use Prim.Native.Nat.{ℕ, zero, suc, _+_, _-_, _≤_, _<_}
 use native.Mathlib.Omega.{arith}
 use native.Mathlib.Nat.{zero-add}

@@ -1,4 +1,4 @@
--- An allocation: what it comes to in a sound state, when it is "no room", and that it agrees with the graph. Assumes nothing.
+-- An allocation: what it comes to in a sound state, when it is "no room", and that it agrees with the graph.
 use Prim.Native.Nat.{ℕ, _+_, _-_, _≤_, _<_}
 use native.Mathlib.Omega.{arith}
 use mathlib.Core.Path.{_≡_, refl}

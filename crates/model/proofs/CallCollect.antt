@@ -1,4 +1,4 @@
--- A collection in the heap and in the graph that it stands for: the graph stays, and both count the same live words. Assumes nothing.
+-- A collection in the heap and in the graph that it stands for: the graph stays, and both count the same live words.
 use Prim.Native.Nat.{ℕ, zero, suc, _+_, _≤_, _<_}
 use native.Mathlib.Omega.{arith}
 use mathlib.Core.Path.{_≡_, refl, sym, ap, _∙_, subst}

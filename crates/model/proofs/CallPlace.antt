@@ -1,4 +1,4 @@
--- A new object in the heap and in the graph that it stands for. Assumes nothing.
+-- A new object in the heap and in the graph that it stands for.
 use Prim.Native.Nat.{ℕ, _+_, _≤_, _<_}
 use native.Mathlib.Omega.{arith}
 use mathlib.Core.Path.{_≡_, refl, sym, ap, _∙_, subst}

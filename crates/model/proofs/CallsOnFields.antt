@@ -1,4 +1,4 @@
--- The calls on fields, in the heap and in the graph that it stands for: load, store, raw read, raw write. Assumes nothing.
+-- The calls on fields, in the heap and in the graph that it stands for: load, store, raw read, raw write.
 use Prim.Native.Nat.{ℕ, _+_, _<_}
 use native.Mathlib.Omega.{arith}
 use mathlib.Core.Path.{_≡_, refl, sym, ap, _∙_, subst}

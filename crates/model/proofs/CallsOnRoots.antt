@@ -1,4 +1,4 @@
--- The calls that look at no field, in the heap and in the graph that it stands for: check, set, copy, same, inspect. Assumes nothing.
+-- The calls that look at no field, in the heap and in the graph that it stands for: check, set, copy, same, inspect.
 use Prim.Native.Nat.{ℕ, _+_, _*_, _-_, _%_, _<_}
 use native.Mathlib.Omega.{arith}
 use mathlib.Core.Path.{_≡_, refl, sym, ap, _∙_, subst}

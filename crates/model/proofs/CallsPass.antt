@@ -1,4 +1,4 @@
--- What each call comes to where nothing refuses it. Assumes nothing.
+-- What each call comes to where nothing refuses it.
 use Prim.Native.Nat.{ℕ, _+_, _≤_, _<_}
 use native.Mathlib.Omega.{arith}
 use mathlib.Core.Path.{_≡_, refl, sym, ap, _∙_, subst}

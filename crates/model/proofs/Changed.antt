@@ -1,4 +1,4 @@
--- The changes that calls make, word by word. Assumes nothing.
+-- The changes that calls make, word by word.
 use Prim.Native.Nat.{ℕ, _+_, _≤_, _<_}
 use native.Mathlib.Omega.{arith}
 use native.Mathlib.Nat.{add-zero}

@@ -1,4 +1,4 @@
--- What a collection leaves, word by word. Assumes nothing.
+-- What a collection leaves, word by word.
 use Prim.Native.Nat.{ℕ, zero, suc, _+_, _-_, _/_, _≤_, _<_}
 use native.Mathlib.Omega.{arith}
 use native.Mathlib.Nat.{add-zero}

@@ -1,4 +1,4 @@
--- A collection leaves a sound state, whose objects are the copies. Assumes nothing.
+-- A collection leaves a sound state, whose objects are the copies.
 use Prim.Native.Nat.{ℕ, _+_, _*_, _-_, _≤_, _<_}
 use native.Mathlib.Omega.{arith}
 use mathlib.Core.Path.{_≡_, sym, ap, _∙_, subst}

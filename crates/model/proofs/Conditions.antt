@@ -1,4 +1,4 @@
--- The tests of the calls decide the conditions of document 01's rows; those of SHAPE, `names` and `sound` are in Deciding. Assumes nothing.
+-- The tests of the calls decide the conditions of document 01's rows; those of SHAPE, `names` and `sound` are in Deciding.
 use Prim.Native.Nat.{ℕ, _+_, _<_}
 use native.Mathlib.Omega.{arith}
 use mathlib.Core.Path.{_≡_, refl, ap}

@@ -1,4 +1,4 @@
--- Copies packed from an index on are tiled, and their headers stand where `wordsBefore` says. Assumes nothing.
+-- Copies packed from an index on are tiled, and their headers stand where `wordsBefore` says.
 use Prim.Native.Nat.{ℕ, zero, suc, _+_, _≤_, _<_}
 use native.Mathlib.Omega.{arith}
 use native.Mathlib.Nat.{add-zero}

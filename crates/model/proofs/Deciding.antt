@@ -1,4 +1,4 @@
--- The tests of the definitions decide document 01's conditions: SHAPE, naming an object, soundness. Assumes nothing.
+-- The tests of the definitions decide document 01's conditions: SHAPE, naming an object, soundness.
 use Prim.Native.Nat.{ℕ, zero, suc, _+_, _-_, _%_, _≤_}
 use native.Mathlib.Omega.{arith}
 use mathlib.Core.Path.{_≡_, refl, sym, subst}

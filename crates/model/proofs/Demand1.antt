@@ -1,4 +1,4 @@
--- Demand 1, of any layout. Assumes nothing.
+-- Demand 1, of any layout.
 use Prim.Native.Nat.{ℕ}
 use native.Mathlib.Omega.{arith}
 use mathlib.Core.Path.{_≡_, refl, sym, _∙_, subst}

@@ -1,4 +1,4 @@
--- Demand 2, of any layout and any sound state: proofs of its parts, and the theorem. Assumes nothing.
+-- Demand 2, of any layout and any sound state: proofs of its parts, and the theorem.
 use Prim.Native.Nat.{ℕ, _+_}
 use native.Mathlib.Omega.{arith}
 use mathlib.Core.Path.{_≡_, refl, sym, ap, _∙_, subst}

@@ -1,4 +1,4 @@
--- Demand 3, of any layout that writes both kinds and of the tuple layout. Assumes nothing.
+-- Demand 3, of any layout that writes both kinds and of the tuple layout.
 use Prim.Native.Nat.{ℕ, _+_, _≤_, _<_}
 use native.Mathlib.Omega.{arith}
 use mathlib.Core.Path.{_≡_, refl, sym, ap, _∙_, subst}

@@ -1,4 +1,4 @@
--- The laws of discovery, for any cells and leads: what is found is reachable, and in the end all of it. Assumes nothing.
+-- The laws of discovery, for any cells and leads: what is found is reachable, and in the end all of it.
 use Prim.Native.Nat.{ℕ, zero, suc, _+_, _-_, _≤_, _<_}
 use native.Mathlib.Omega.{arith}
 use native.Mathlib.Nat.{zero-add, suc-add}

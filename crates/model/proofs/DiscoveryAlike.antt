@@ -1,4 +1,4 @@
--- Two discoveries that go alike: one of the nodes `ids`, the other of their places. Assumes nothing.
+-- Two discoveries that go alike: one of the nodes `ids`, the other of their places.
 use Prim.Native.Nat.{ℕ, zero, suc, _+_, _-_, _≤_, _<_}
 use native.Mathlib.Omega.{arith}
 use mathlib.Core.Path.{_≡_, refl, sym, ap, _∙_}

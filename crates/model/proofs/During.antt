@@ -1,4 +1,4 @@
--- A collection with p words passed: the next word, what a longer order renames alike, and the end. Assumes nothing.
+-- A collection with p words passed: the next word, what a longer order renames alike, and the end.
 use Prim.Native.Nat.{ℕ, suc, _+_, _≤_, _<_}
 use native.Mathlib.Omega.{arith}
 use mathlib.Core.Path.{_≡_, refl, sym, ap, _∙_}

@@ -1,4 +1,4 @@
--- The library's machine does what document 01's "The calls" says, where nothing refuses. Assumes nothing.
+-- The library's machine does what document 01's "The calls" says, where nothing refuses.
 use Prim.Native.Nat.{ℕ, _%_}
 use native.Mathlib.Omega.{arith}
 use mathlib.Core.Path.{_≡_, refl, sym, ap, _∙_}

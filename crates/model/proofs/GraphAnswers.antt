@@ -1,4 +1,4 @@
--- The graph never answers SHAPE, DAMAGED or ROOM. Assumes nothing.
+-- The graph never answers SHAPE, DAMAGED or ROOM.
 use mathlib.Core.Path.{_≡_, refl}
 use mathlib.Core.Bool.{true}
 use Rattle.model.specs.declared.Refusal.{Refusal}

@@ -1,4 +1,4 @@
--- The graph of a session names only objects that it has. Assumes nothing.
+-- The graph of a session names only objects that it has.
 use Prim.Native.Nat.{ℕ, _+_, _≤_, _<_}
 use native.Mathlib.Omega.{arith}
 use mathlib.Core.Path.{_≡_, sym, ap, subst}

@@ -1,5 +1,5 @@
 -- What a session call on the graph answers and leaves: a property of outcomes that each answer and each change of a call has holds of
--- every call's outcome. One walk through the calls for every such property. Assumes nothing.
+-- every call's outcome. One walk through the calls for every such property.
 use Prim.Native.Nat.{ℕ}
 use mathlib.Core.Path.{_≡_, refl}
 use mathlib.Core.Bool.{Bool, true, false}

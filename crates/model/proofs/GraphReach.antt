@@ -1,4 +1,4 @@
--- The graph's live words are the words of its reachable objects, whatever list names each once. Assumes nothing.
+-- The graph's live words are the words of its reachable objects, whatever list names each once.
 use Prim.Native.Nat.{ℕ, zero, suc, _≤_, _<_}
 use native.Mathlib.Omega.{arith}
 use mathlib.Core.Path.{_≡_, refl, sym, ap, _∙_}

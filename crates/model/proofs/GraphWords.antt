@@ -1,4 +1,4 @@
--- The words of all objects of a graph, counted two ways. Assumes nothing.
+-- The words of all objects of a graph, counted two ways.
 use Prim.Native.Nat.{ℕ, zero, suc, _+_, _<_}
 use native.Mathlib.Omega.{arith}
 use mathlib.Core.Path.{_≡_, refl, ap, _∙_}

@@ -1,4 +1,4 @@
--- The halves put together again, and a run with zeros after it, word by word. Assumes nothing.
+-- The halves put together again, and a run with zeros after it, word by word.
 use Prim.Native.Nat.{ℕ, suc, _+_, _-_, _≤_, _<_}
 use native.Mathlib.Omega.{arith}
 use native.Mathlib.Nat.{add-comm}

@@ -1,4 +1,4 @@
--- Headers of the tuple layout, written and read. Assumes nothing.
+-- Headers of the tuple layout, written and read.
 use Prim.Native.Nat.{ℕ, _+_, _*_, _%_, _≤_}
 use native.Mathlib.Omega.{arith}
 use mathlib.Core.Path.{_≡_}

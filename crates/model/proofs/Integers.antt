@@ -1,4 +1,4 @@
--- Tagged integers: the word of an integer, and back. Assumes nothing.
+-- Tagged integers: the word of an integer, and back.
 use Prim.Native.Nat.{ℕ, suc, _+_, _*_, _-_, _/_, _%_, _≤_, _<_}
 use native.Mathlib.Omega.{arith}
 use mathlib.Core.Path.{_≡_, ap}

@@ -1,4 +1,4 @@
--- Every session call by the rows of its refusals: the first that applies is given, and what it then leaves. Assumes nothing.
+-- Every session call by the rows of its refusals: the first that applies is given, and what it then leaves.
 use Prim.Native.Nat.{ℕ, _%_}
 use native.Mathlib.Omega.{arith}
 use mathlib.Core.Path.{_≡_, refl}

@@ -1,4 +1,4 @@
--- Every session call leaves a sound state sound. Assumes nothing.
+-- Every session call leaves a sound state sound.
 use Prim.Native.Nat.{ℕ, _+_}
 use mathlib.Core.Path.{ap}
 use borrow.Author.Tests.{leb-true}

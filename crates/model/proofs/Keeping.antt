@@ -1,4 +1,4 @@
--- Changes that keep a state sound: a root set to a value, a field stored. Assumes nothing.
+-- Changes that keep a state sound: a root set to a value, a field stored.
 use Prim.Native.Nat.{ℕ, _+_, _*_, _-_, _/_, _≤_, _<_}
 use native.Mathlib.Omega.{arith}
 use mathlib.Core.Path.{_≡_, sym, ap, _∙_}

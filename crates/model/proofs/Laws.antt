@@ -1,4 +1,4 @@
--- Further laws: the window, integers and headers, lengths, and that a promise settles everything. Assumes nothing.
+-- Further laws: the window, integers and headers, lengths, and that a promise settles everything.
 use Prim.Native.Nat.{ℕ, _%_, _+_, _-_, _/_, _≤_, _<_}
 use native.Mathlib.Omega.{arith}
 use mathlib.Core.Path.{_≡_, refl, sym, ap, _∙_}

@@ -1,5 +1,5 @@
 -- What a session call leaves: a property that a state has, and that each change which a call can make keeps, holds of what any
--- call leaves. One walk through the calls for every such property. Assumes nothing.
+-- call leaves. One walk through the calls for every such property.
 use Prim.Native.Nat.{ℕ, _≤_, _<_}
 use mathlib.Core.Path.{_≡_}
 use mathlib.Core.Bool.{Bool, true, false, not}

@@ -1,4 +1,4 @@
--- No call changes the length of the heap or the number of roots. Assumes nothing.
+-- No call changes the length of the heap or the number of roots.
 use Prim.Native.Nat.{ℕ}
 use mathlib.Core.Path.{_≡_, refl, _∙_}
 use mathlib.Core.Bool.{true}

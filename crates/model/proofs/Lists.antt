@@ -1,4 +1,4 @@
--- Laws of lists that the kit's library lacks: `map`, `replicate` and `sets` by index. Assumes nothing.
+-- Laws of lists that the kit's library lacks: `map`, `replicate` and `sets` by index.
 use Prim.Native.Nat.{ℕ, zero, suc, _+_, _≤_, _<_}
 use native.Mathlib.Omega.{arith}
 use native.Mathlib.Nat.{add-zero}

@@ -1,4 +1,4 @@
--- What the library's calls look at, and where a root's word comes from. Assumes nothing.
+-- What the library's calls look at, and where a root's word comes from.
 use Prim.Native.Nat.{ℕ, _+_, _<_}
 use native.Mathlib.Omega.{arith}
 use mathlib.Core.Path.{_≡_, refl, sym, ap, subst}

@@ -1,4 +1,4 @@
--- Membership in a list of numbers by the test `mem`, lists with no number twice, and `all` over members. Assumes nothing.
+-- Membership in a list of numbers by the test `mem`, lists with no number twice, and `all` over members.
 use Prim.Native.Nat.{ℕ, zero, suc, _<_}
 use native.Mathlib.Omega.{arith}
 use mathlib.Core.Path.{_≡_, refl, sym, ap}

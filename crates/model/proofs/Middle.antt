@@ -1,5 +1,5 @@
 -- What the middle of a collection rests on: the words of the objects that are copied, what one more visit changes, and that
--- past the last word nothing changes. Assumes nothing.
+-- past the last word nothing changes.
 use Prim.Native.Nat.{ℕ, zero, suc, _+_, _-_, _≤_, _<_}
 use native.Mathlib.Nat.{add-zero}
 use native.Mathlib.Omega.{arith}

@@ -1,4 +1,4 @@
--- Demand 2 leaves no choice: what a collection may leave of a state is one state, and L one number. Assumes nothing.
+-- Demand 2 leaves no choice: what a collection may leave of a state is one state, and L one number.
 use Prim.Native.Nat.{ℕ, zero, suc, _+_, _-_, _/_, _≤_, _<_}
 use native.Mathlib.Omega.{arith}
 use mathlib.Core.Path.{_≡_, sym, ap, _∙_, subst}

@@ -1,4 +1,4 @@
--- Objects: their cells and fields, their kinds, and addresses to indexes and back. Assumes nothing.
+-- Objects: their cells and fields, their kinds, and addresses to indexes and back.
 use Prim.Native.Nat.{ℕ, _+_, _≤_, _<_}
 use native.Mathlib.Omega.{arith}
 use mathlib.Core.Path.{_≡_, refl}

@@ -1,4 +1,4 @@
--- The order of a sound state: its objects are headers of the tiling, exactly the reachable ones, each once. Assumes nothing.
+-- The order of a sound state: its objects are headers of the tiling, exactly the reachable ones, each once.
 use Prim.Native.Nat.{ℕ, suc, _+_, _-_, _≤_, _<_}
 use native.Mathlib.Omega.{arith}
 use mathlib.Core.Path.{_≡_, refl, sym, _∙_, subst}

@@ -1,4 +1,4 @@
--- Cells end to end: where those of a node stand, that two nodes stand apart, and how many there are. Assumes nothing.
+-- Cells end to end: where those of a node stand, that two nodes stand apart, and how many there are.
 use Prim.Native.Nat.{ℕ, _+_, _-_, _≤_, _<_}
 use native.Mathlib.Omega.{arith}
 use native.Mathlib.Nat.{zero-add, add-assoc}

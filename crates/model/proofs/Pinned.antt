@@ -1,4 +1,4 @@
--- Two machines that meet demand 1, demand 2 and the sentences of Effects answer every call alike and leave the same. Assumes nothing.
+-- Two machines that meet demand 1, demand 2 and the sentences of Effects answer every call alike and leave the same.
 use Prim.Native.Nat.{ℕ, _+_, _-_, _%_, _≤_, _<_}
 use native.Mathlib.Omega.{arith}
 use mathlib.Core.Path.{_≡_, refl, sym, ap, _∙_, subst}

@@ -1,4 +1,4 @@
--- A new object at the free index keeps a state sound. Assumes nothing.
+-- A new object at the free index keeps a state sound.
 use Prim.Native.Nat.{ℕ, suc, _+_, _*_, _-_, _/_, _%_, _≤_, _<_}
 use native.Mathlib.Omega.{arith}
 use native.Mathlib.Nat.{add-zero}

@@ -1,4 +1,4 @@
--- Answers that are no refusal, and refusals told apart. Assumes nothing.
+-- Answers that are no refusal, and refusals told apart.
 use Prim.Native.Nat.{ℕ}
 use native.Mathlib.Omega.{arith}
 use mathlib.Core.Path.{_≡_, refl, sym, _∙_, ap}

@@ -1,4 +1,4 @@
--- A call's chain of refusals, followed test by test, and what a by-value call says with its record. Assumes nothing.
+-- A call's chain of refusals, followed test by test, and what a by-value call says with its record.
 use Prim.Native.Nat.{ℕ}
 use mathlib.Core.Path.{_≡_, ap, _∙_}
 use mathlib.Core.Bool.{Bool, true, false}

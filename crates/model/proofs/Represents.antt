@@ -1,4 +1,4 @@
--- A heap that stands for a graph: what follows for its words, and calls that both answer alike. Assumes nothing.
+-- A heap that stands for a graph: what follows for its words, and calls that both answer alike.
 use Prim.Native.Nat.{ℕ, _+_, _%_, _≤_, _<_}
 use native.Mathlib.Omega.{arith}
 use mathlib.Core.Path.{_≡_, refl, sym, ap, _∙_, subst}

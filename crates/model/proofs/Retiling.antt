@@ -1,4 +1,4 @@
--- A tiling is read off its headers alone: the same in another heap, and with one more object at its end. Assumes nothing.
+-- A tiling is read off its headers alone: the same in another heap, and with one more object at its end.
 use Prim.Native.Nat.{ℕ, zero, suc, _+_, _≤_, _<_}
 use native.Mathlib.Omega.{arith}
 use mathlib.Core.Path.{_≡_, refl, sym, ap, _∙_, subst}

@@ -1,4 +1,4 @@
--- Wrong machines, and the demand that each of them breaks: no demand holds of everything. Assumes nothing.
+-- Wrong machines, and the demand that each of them breaks: no demand holds of everything.
 use Prim.Native.Nat.{ℕ, zero, suc, _+_, _-_, _≤_, _<_}
 use native.Mathlib.Omega.{arith}
 use mathlib.Core.Path.{_≡_, refl, sym, ap}

@@ -1,4 +1,4 @@
--- Wrong machines that meet the demands' older sentences, and the field of Effects that each of them breaks. Assumes nothing.
+-- Wrong machines that meet the demands' older sentences, and the field of Effects that each of them breaks.
 use Prim.Native.Nat.{ℕ, _+_}
 use native.Mathlib.Omega.{arith}
 use mathlib.Core.Path.{_≡_, refl, ap}

@@ -1,4 +1,4 @@
--- Wrong machines that look at more than they may or cannot be told apart, and the sentence that each of them breaks. Assumes nothing.
+-- Wrong machines that look at more than they may or cannot be told apart, and the sentence that each of them breaks.
 use Prim.Native.Nat.{ℕ, zero, suc, _%_, _<_}
 use native.Mathlib.Omega.{arith}
 use mathlib.Core.Path.{_≡_, refl, sym, ap, _∙_}

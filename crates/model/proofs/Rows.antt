@@ -1,4 +1,4 @@
--- The first row that applies is one at most, and none applies exactly when there is no first. Assumes nothing.
+-- The first row that applies is one at most, and none applies exactly when there is no first.
 use mathlib.Core.Path.{_≡_, sym, _∙_, subst}
 use mathlib.Core.Logic.{inl, inr}
 use mathlib.Core.List.{List, [], _∷_}

@@ -1,4 +1,4 @@
--- Records, states and outcomes are equal by their parts. Assumes nothing.
+-- Records, states and outcomes are equal by their parts.
 use mathlib.Core.Path.{_≡_}
 use Rattle.model.specs.declared.Record.{Record}
 use Rattle.model.specs.Answers.{Outcome}

@@ -1,4 +1,4 @@
--- A session in a heap and in the graph that it stands for, call by call and for lists of calls. Assumes nothing.
+-- A session in a heap and in the graph that it stands for, call by call and for lists of calls.
 use Prim.Native.Nat.{ℕ, zero, suc, _-_, _/_, _≤_}
 use native.Mathlib.Omega.{arith}
 use mathlib.Core.Path.{_≡_, refl, sym, ap, _∙_}

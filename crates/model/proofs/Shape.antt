@@ -1,4 +1,4 @@
--- SHAPE by its parts, and the halves of a heap that has its shape. Assumes nothing.
+-- SHAPE by its parts, and the halves of a heap that has its shape.
 use Prim.Native.Nat.{ℕ, _+_, _*_, _-_, _/_, _%_, _≤_, _<_}
 use native.Mathlib.Omega.{arith}
 use mathlib.Core.Path.{_≡_}

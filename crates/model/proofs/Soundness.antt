@@ -1,4 +1,4 @@
--- What `sound` says, each part by name, and back. Assumes nothing.
+-- What `sound` says, each part by name, and back.
 use Prim.Native.Nat.{ℕ, _+_, _-_, _≤_, _<_}
 use native.Mathlib.Omega.{arith}
 use mathlib.Core.Path.{_≡_, refl, ap, _∙_}

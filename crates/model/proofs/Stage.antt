@@ -1,4 +1,4 @@
--- A collection with the objects of an order copied and p words passed, word by word. Assumes nothing.
+-- A collection with the objects of an order copied and p words passed, word by word.
 use Prim.Native.Nat.{ℕ, _+_, _-_, _≤_, _<_}
 use native.Mathlib.Omega.{arith}
 use mathlib.Core.Path.{_≡_, refl, sym, ap, _∙_, subst}

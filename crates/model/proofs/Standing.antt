@@ -1,4 +1,4 @@
--- Every sound state of 32-bit words stands for a graph: an object for each header of the tiling, in that order. Assumes nothing.
+-- Every sound state of 32-bit words stands for a graph: an object for each header of the tiling, in that order.
 use Prim.Native.Nat.{ℕ, zero, suc, _+_, _-_, _%_, _<_}
 use native.Mathlib.Omega.{arith}
 use mathlib.Core.Path.{_≡_, refl, sym, ap, _∙_}

@@ -1,4 +1,4 @@
--- What fresh leaves of any words of a legal length with null roots is sound and stands for the empty graph. Assumes nothing.
+-- What fresh leaves of any words of a legal length with null roots is sound and stands for the empty graph.
 use Prim.Native.Nat.{ℕ, _+_, _*_, _-_, _%_}
 use native.Mathlib.Omega.{arith}
 use mathlib.Core.Path.{_≡_, refl, sym, ap, _∙_, subst}

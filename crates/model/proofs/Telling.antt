@@ -1,4 +1,4 @@
--- Answers are read back from their numbers, so that equal numbers are equal answers. Assumes nothing.
+-- Answers are read back from their numbers, so that equal numbers are equal answers.
 use Prim.Native.Nat.{ℕ}
 use mathlib.Core.Path.{_≡_, refl, sym, ap, _∙_}
 use mathlib.Core.Bool.{Bool, true, false, cond}

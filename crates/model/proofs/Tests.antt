@@ -1,4 +1,4 @@
--- Tests: case splits by a test's result, and the laws of `||`, `&&` and `all`. Assumes nothing.
+-- Tests: case splits by a test's result, and the laws of `||`, `&&` and `all`.
 use Prim.Native.Nat.{ℕ, zero, suc, _≤_, _<_}
 use native.Mathlib.Omega.{arith}
 use mathlib.Core.Path.{_≡_, refl, sym, _∙_}

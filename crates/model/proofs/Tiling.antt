@@ -1,4 +1,4 @@
--- A tiling: its steps, the objects in it, that they stand apart, and their words. Assumes nothing.
+-- A tiling: its steps, the objects in it, that they stand apart, and their words.
 use Prim.Native.Nat.{ℕ, zero, suc, _+_, _-_, _≤_, _<_}
 use native.Mathlib.Omega.{arith}
 use mathlib.Core.Path.{_≡_, refl}

@@ -1,4 +1,4 @@
--- Words that are values: what they lead to, and the headers that they name. Assumes nothing.
+-- Words that are values: what they lead to, and the headers that they name.
 use Prim.Native.Nat.{ℕ, zero, suc, _+_, _%_, _≤_, _<_}
 use native.Mathlib.Omega.{arith}
 use mathlib.Core.Path.{_≡_, refl, sym, ap, _∙_}

@@ -1,4 +1,4 @@
--- Visits one after another: what an order begins with, that it names nothing twice, and what is in it. Assumes nothing.
+-- Visits one after another: what an order begins with, that it names nothing twice, and what is in it.
 use Prim.Native.Nat.{ℕ, zero, suc}
 use native.Mathlib.Omega.{arith}
 use mathlib.Core.Path.{_≡_, refl, sym, ap, _∙_}

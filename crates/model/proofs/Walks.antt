@@ -1,5 +1,5 @@
 -- A walk over headers from i to e, with the words left as the number of turns: more turns change nothing, and how it goes on from
--- one header to the next. Assumes nothing.
+-- one header to the next.
 use Prim.Native.Nat.{ℕ, zero, suc, _+_, _-_, _≤_, _<_}
 use native.Mathlib.Omega.{arith}
 use mathlib.Core.Path.{_≡_, refl, sym, ap, _∙_}

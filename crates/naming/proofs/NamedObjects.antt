@@ -1,4 +1,4 @@
--- An object that a word names lies in the heap: what SHAPE and the test of the name say of its words. Assumes nothing.
+-- An object that a word names lies in the heap: what SHAPE and the test of the name say of its words.
 use Prim.Native.Nat.{ℕ, _+_, _≤_, _<_, _%_}
 use native.Mathlib.Omega.{arith}
 use mathlib.Core.Path.{_≡_, sym}

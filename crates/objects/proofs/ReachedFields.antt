@@ -1,4 +1,4 @@
--- The calls on one field, by the field that they reach or are refused. Assumes nothing.
+-- The calls on one field, by the field that they reach or are refused.
 use Prim.Native.Nat.{ℕ, _<_}
 use native.Mathlib.Omega.{arith}
 use mathlib.Core.Path.{_≡_, refl, sym, ap, _∙_}
@@ -32,17 +32,6 @@ use Rattle.words.proofs.RootNumbers.{both-below}
 unfoldable pub answered : Field → State → (ℕ → Outcome State) → Outcome State
 answered (At i) s next = next (i .0)
 answered (Refused k) s next = says (Says.Refused k) s
-
--- such a call, where the field is known, or the refusal
-pub by-field : {o : Outcome State} {x : Field} {i : Index} (s : State) (next : ℕ → Outcome State)
-    → o ≡ answered x s next → x ≡ At i → next (i .0) ≡ o
-unfolding answered
-by-field s next e f = sym (e ∙ ap (λ (x : Field). answered x s next) f)
-
-pub by-refusal : {o : Outcome State} {x : Field} {k : Refusal} (s : State) (next : ℕ → Outcome State)
-    → o ≡ answered x s next → x ≡ Refused k → says (Says.Refused k) s ≡ o
-unfolding answered
-by-refusal s next e f = sym (e ∙ ap (λ (x : Field). answered x s next) f)
 
 -- the number that is answered, or written, as the code has it
 pub same-number : {x y : ℕ} (s : State) → x ≡ y → says (Says.Number x) s ≡ says (Says.Number y) s
@@ -109,11 +98,7 @@ module _ (Y : Layout) where
   unfolding rawWrite
   raw-write-reached r f x s = on-reached-once Untraced r f s (λ i. says Says.Done (withWord s i x))
 
-  -- the field number as the code has it
-  pub same-field : {x : Field} (k : Kind) (r f q : ℕ) (s : State) {f′ : ℕ} → x ≡ reached Y k r f′ q s → f′ ≡ f → x ≡ reached Y k r f q s
-  same-field k r f q s e n = e ∙ ap (λ (f : ℕ). reached Y k r f q s) n
-
-  pub reaches : (k : Kind) (r f q : ℕ) (s : State) (i : Index) → reached Y k r f q s ≡ At i → Reaches s r q i
+  reaches : (k : Kind) (r f q : ℕ) (s : State) (i : Index) → reached Y k r f q s ≡ At i → Reaches s r q i
   unfolding fieldOf reached
   reaches k r f q s i e =
       let w = rootWord s r in
@@ -128,3 +113,21 @@ module _ (Y : Layout) where
       let ends = named-ends Y s w (not-false _ (object .0)) in
       let less = leb-false (fieldCount Y (s .heap) (index Y w)) f (fields .0) in
       record { field = omega arith; object = below .0; other = below .1 }
+
+  -- x is what `reach` answered, of the field number as the code has it
+  module _ {x : Field} {f′ : ℕ} (k : Kind) (r f q : ℕ) (s : State) (e : x ≡ reached Y k r f′ q s) (n : f′ ≡ f) where
+    answer-is : x ≡ reached Y k r f q s
+    answer-is = e ∙ ap (λ (f : ℕ). reached Y k r f q s) n
+
+    pub within : {i : Index} → x ≡ At i → Reaches s r q i
+    within {i} g = reaches k r f q s i (sym answer-is ∙ g)
+
+    -- a call that goes by it: the field is known, or the refusal
+    module _ {o : Outcome State} (next : ℕ → Outcome State) (c : o ≡ answered (reached Y k r f q s) s next) where
+      pub by-field : {i : Index} → x ≡ At i → next (i .0) ≡ o
+      unfolding answered
+      by-field g = sym (c ∙ ap (λ (x : Field). answered x s next) (sym answer-is ∙ g))
+
+      pub by-refusal : {why : Refusal} → x ≡ Refused why → says (Says.Refused why) s ≡ o
+      unfolding answered
+      by-refusal g = sym (c ∙ ap (λ (x : Field). answered x s next) (sym answer-is ∙ g))

@@ -75,8 +75,8 @@ pub fn store(
     ensures { λ r. ⌜ outcome r heap roots
         ≡ Calls.store Layouts.tuple object field from (lent heap roots «record») ⌝ }
 {
-    let found = reach(heap, roots, record, Kind::Traced, object, field, from);
-    match found {
+    let target = reach(heap, roots, record, Kind::Traced, object, field, from);
+    match target {
         Field::At(index) => {
             let at = index.0;
             heap[at] = roots[from];

@@ -1,4 +1,4 @@
--- A new object placed, and an allocation that is done at once: what each asks and leaves. Assumes nothing.
+-- A new object placed, and an allocation that is done at once: what each asks and leaves.
 use Prim.Native.Nat.{ℕ, _+_, _-_, _≤_, _<_}
 use native.Mathlib.Numerals.{add-one}
 use native.Mathlib.Omega.{arith}

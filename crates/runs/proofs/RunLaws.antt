@@ -1,4 +1,4 @@
--- Runs of words: what clearing and copying leave at each index, and when words are all 0. Assumes nothing.
+-- Runs of words: what clearing and copying leave at each index, and when words are all 0.
 use Prim.Native.Nat.{ℕ, zero, suc, _+_, _-_, _≤_, _<_}
 use native.Mathlib.Nat.{add-zero}
 use native.Mathlib.Omega.{arith}

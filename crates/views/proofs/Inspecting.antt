@@ -1,4 +1,4 @@
--- What inspect says of a root's word, case by case, where SHAPE and ROOT have passed. Assumes nothing.
+-- What inspect says of a root's word, case by case, where SHAPE and ROOT have passed.
 use Prim.Native.Nat.{ℕ, _<_, _%_}
 use native.Mathlib.Omega.{arith}
 use mathlib.Core.Path.{_≡_, sym}

@@ -1,4 +1,4 @@
--- Two root numbers that are not refused. Assumes nothing.
+-- Two root numbers that are not refused.
 use Prim.Native.Nat.{ℕ, _<_}
 use mathlib.Core.Path.{_≡_}
 use mathlib.Core.Bool.{false, _||_}

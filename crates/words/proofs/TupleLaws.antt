@@ -1,4 +1,4 @@
--- Headers of the tuple layout as the code tests them. Assumes nothing.
+-- Headers of the tuple layout as the code tests them.
 use Prim.Native.Nat.{ℕ}
 use mathlib.Core.Path.{_≡_, refl}
 use mathlib.Core.Bool.{Bool, true, false, cond}

@@ -1,13 +1,11 @@
 -- `objects::load` meets its contract: the call is what `reach` answers, read as a call's outcome.
 use native.Mathlib.Omega.{arith}
-use mathlib.Core.Path.{_≡_, sym, _∙_}
+use mathlib.Core.Path.{refl}
 use Rattle.model.specs.declared.Kind.the-variants.{Traced}
 use Rattle.model.specs.Headers.{tuple}
 use Rattle.model.specs.Words.{State, stateOf}
-use Rattle.naming.specs.declared.Field.the-variants.{At}
-use Rattle.objects.specs.Reached.{reached}
 use Rattle.model.proofs.Refusing.{said}
-use Rattle.objects.proofs.ReachedFields.{by-field, by-refusal, Reaches, reaches, load-reached}
+use Rattle.objects.proofs.ReachedFields.{Reaches, within, by-field, by-refusal, load-reached}
 use borrow.Author.Needs.{needs}
 use Rattle.objects.proofs.load.Statement.{statement}
 use Rattle.objects.proofs.load.Tie as tie
@@ -20,13 +18,13 @@ use Rattle.objects.proofs.reach.Reads as reach-reads
 abbrev start : tie.Start → State
 start c = stateOf (c .args .heap .now) (c .args .roots .now) (c .args .«record»)
 
-found-at : (c : tie.After-found) → let s = c .before .before .before .before .before .before in
-    reached tuple Traced (s .args .object) (s .args .field) (s .args .to) (start s) ≡ At (c .found .given .0 .0)
-found-at c = sym (c .before .before .reach .ensures) ∙ c .found .given .1
+abbrev origin : tie.After-found → tie.Start
+origin c = c .before .before .before .before .before .before
 
-reached-at : (c : tie.After-found) → let s = c .before .before .before .before .before .before in
+-- the field that was reached lies in the heap, and the roots are there
+reached-at : (c : tie.After-found) → let s = origin c in
     Reaches (start s) (s .args .object) (s .args .to) (c .found .given .0 .0)
-reached-at c = reaches _ _ _ _ _ _ _ (found-at c)
+reached-at c = within tuple Traced _ _ _ _ (c .before .before .reach .ensures) refl (c .found .given .1)
 
 reach-requires : tie.Need-reach-requires
 reach-requires c κs = search needs
@@ -60,17 +58,18 @@ same-length c = search needs
 
 returns : tie.Need-returns
 returns c =
+    let found = c .before .before .before in
     said _ _ (c .say .ensures)
-    (by-field _ _ (load-reached _ _ _ _ _) (found-at (c .before .before .before)))
+    (by-field tuple Traced _ _ _ _ (found .before .before .reach .ensures) refl _ (load-reached _ _ _ _ _) (found .found .given .1))
 
 same-length-2 : tie.Need-same-length-2
 same-length-2 c = search needs
 
 returns-2 : tie.Need-returns-2
 returns-2 c =
+    let found = c .before .before in
     said _ _ (c .say2 .ensures)
-    (by-refusal _ _ (load-reached _ _ _ _ _)
-    (sym (c .before .before .before .before .reach .ensures) ∙ c .before .before .found2 .given .1))
+    (by-refusal tuple Traced _ _ _ _ (found .before .before .reach .ensures) refl _ (load-reached _ _ _ _ _) (found .found2 .given .1))
 
 pub load-spec : {M : Type 1} → statement M
 load-spec =

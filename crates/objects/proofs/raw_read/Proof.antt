@@ -1,13 +1,11 @@
 -- `objects::raw_read` meets its contract: the call is what `reach` answers, read as a call's outcome.
 use native.Mathlib.Omega.{arith}
-use mathlib.Core.Path.{_≡_, sym, _∙_}
+use mathlib.Core.Path.{_∙_}
 use Rattle.model.specs.declared.Kind.the-variants.{Untraced}
 use Rattle.model.specs.Headers.{tuple}
 use Rattle.model.specs.Words.{State, stateOf}
-use Rattle.naming.specs.declared.Field.the-variants.{At}
-use Rattle.objects.specs.Reached.{reached}
 use Rattle.model.proofs.Refusing.{said}
-use Rattle.objects.proofs.ReachedFields.{by-field, by-refusal, Reaches, reaches, raw-read-reached, same-field, same-number}
+use Rattle.objects.proofs.ReachedFields.{Reaches, within, by-field, by-refusal, raw-read-reached, same-number}
 use borrow.Author.Needs.{needs}
 use Rattle.objects.proofs.raw_read.Statement.{statement}
 use Rattle.objects.proofs.raw_read.Tie as tie
@@ -20,13 +18,13 @@ use Rattle.objects.proofs.reach.Reads as reach-reads
 abbrev start : tie.Start → State
 start c = stateOf (c .args .heap .now) (c .args .roots .now) (c .args .«record»)
 
-found-at : (c : tie.After-found) → let s = c .before .before .before .before .before in
-    reached tuple Untraced (s .args .object) (s .args .field) (s .args .object) (start s) ≡ At (c .found .given .0 .0)
-found-at c = sym (same-field tuple _ _ _ _ _ (c .before .before .reach .ensures) (omega arith)) ∙ c .found .given .1
+abbrev origin : tie.After-found → tie.Start
+origin c = c .before .before .before .before .before
 
-reached-at : (c : tie.After-found) → let s = c .before .before .before .before .before in
+-- the field that was reached lies in the heap, and the roots are there
+reached-at : (c : tie.After-found) → let s = origin c in
     Reaches (start s) (s .args .object) (s .args .object) (c .found .given .0 .0)
-reached-at c = reaches _ _ _ _ _ _ _ (found-at c)
+reached-at c = within tuple Untraced _ (origin c .args .field) _ _ (c .before .before .reach .ensures) (omega arith) (c .found .given .1)
 
 reach-requires : tie.Need-reach-requires
 reach-requires c κs = search needs
@@ -51,15 +49,17 @@ say-requires-2 c κs = search needs
 
 returns : tie.Need-returns
 returns c =
+    let found = c .before .before .before in
     said _ _ (c .say .ensures)
-    (same-number _ (omega arith) ∙ by-field _ _ (raw-read-reached _ _ _ _) (found-at (c .before .before .before)))
+    (same-number _ (omega arith)
+    ∙ by-field tuple Untraced _ (origin found .args .field) _ _ (found .before .before .reach .ensures) (omega arith) _ (raw-read-reached _ _ _ _) (found .found .given .1))
 
 returns-2 : tie.Need-returns-2
 returns-2 c =
+    let found = c .before .before in
+    let s = found .before .before .before .before .before in
     said _ _ (c .say2 .ensures)
-    (by-refusal _ _ (raw-read-reached _ _ _ _)
-    (sym (same-field tuple _ _ _ _ _ (c .before .before .before .before .reach .ensures) (omega arith))
-    ∙ c .before .before .found2 .given .1))
+    (by-refusal tuple Untraced _ (s .args .field) _ _ (found .before .before .reach .ensures) (omega arith) _ (raw-read-reached _ _ _ _) (found .found2 .given .1))
 
 pub raw-read-spec : {M : Type 1} → statement M
 raw-read-spec =

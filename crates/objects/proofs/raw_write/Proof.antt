@@ -1,13 +1,10 @@
 -- `objects::raw_write` meets its contract: the call is what `reach` answers, read as a call's outcome.
 use native.Mathlib.Omega.{arith}
-use mathlib.Core.Path.{_≡_, sym, _∙_}
 use Rattle.model.specs.declared.Kind.the-variants.{Untraced}
 use Rattle.model.specs.Headers.{tuple}
 use Rattle.model.specs.Words.{State, stateOf}
-use Rattle.naming.specs.declared.Field.the-variants.{At}
-use Rattle.objects.specs.Reached.{reached}
 use Rattle.model.proofs.Refusing.{said}
-use Rattle.objects.proofs.ReachedFields.{by-field, by-refusal, Reaches, reaches, raw-write-reached, same-field, written}
+use Rattle.objects.proofs.ReachedFields.{Reaches, within, by-field, by-refusal, raw-write-reached, written}
 use borrow.Author.Needs.{needs}
 use Rattle.objects.proofs.raw_write.Statement.{statement}
 use Rattle.objects.proofs.raw_write.Tie as tie
@@ -20,13 +17,13 @@ use Rattle.objects.proofs.reach.Reads as reach-reads
 abbrev start : tie.Start → State
 start c = stateOf (c .args .heap .now) (c .args .roots .now) (c .args .«record»)
 
-found-at : (c : tie.After-target) → let s = c .before .before .before .before .before .before in
-    reached tuple Untraced (s .args .object) (s .args .field) (s .args .object) (start s) ≡ At (c .target .given .0 .0)
-found-at c = sym (same-field tuple _ _ _ _ _ (c .before .before .reach .ensures) (omega arith)) ∙ c .target .given .1
+abbrev origin : tie.After-target → tie.Start
+origin c = c .before .before .before .before .before .before
 
-reached-at : (c : tie.After-target) → let s = c .before .before .before .before .before .before in
+-- the field that was reached lies in the heap, and the roots are there
+reached-at : (c : tie.After-target) → let s = origin c in
     Reaches (start s) (s .args .object) (s .args .object) (c .target .given .0 .0)
-reached-at c = reaches _ _ _ _ _ _ _ (found-at c)
+reached-at c = within tuple Untraced _ (origin c .args .field) _ _ (c .before .before .reach .ensures) (omega arith) (c .target .given .1)
 
 reach-requires : tie.Need-reach-requires
 reach-requires c κs = search needs
@@ -54,20 +51,21 @@ same-length c = search needs
 
 returns : tie.Need-returns
 returns c =
-    let found = c .before .before in
-    let s = found .before .before .before .before .before .before in
-    written {y = s .args .number} (start s) (found .target .given .0 .0 .0) _ (c .say .ensures)
-    (by-field _ _ (raw-write-reached _ _ _ _ _) (found-at found)) (omega arith)
+    let target = c .before .before in
+    let s = origin target in
+    written {y = s .args .number} (start s) (target .target .given .0 .0 .0) _ (c .say .ensures)
+    (by-field tuple Untraced _ (origin target .args .field) _ _ (target .before .before .reach .ensures) (omega arith) _ (raw-write-reached _ _ _ _ _) (target .target .given .1))
+    (omega arith)
 
 same-length-2 : tie.Need-same-length-2
 same-length-2 c = search needs
 
 returns-2 : tie.Need-returns-2
 returns-2 c =
+    let target = c .before .before in
+    let s = target .before .before .before .before .before .before in
     said _ _ (c .say2 .ensures)
-    (by-refusal _ _ (raw-write-reached _ _ _ _ _)
-    (sym (same-field tuple _ _ _ _ _ (c .before .before .before .before .reach .ensures) (omega arith))
-    ∙ c .before .before .target2 .given .1))
+    (by-refusal tuple Untraced _ (s .args .field) _ _ (target .before .before .reach .ensures) (omega arith) _ (raw-write-reached _ _ _ _ _) (target .target2 .given .1))
 
 pub raw-write-spec : {M : Type 1} → statement M
 raw-write-spec =

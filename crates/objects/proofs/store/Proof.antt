@@ -1,13 +1,11 @@
 -- `objects::store` meets its contract: the call is what `reach` answers, read as a call's outcome.
 use native.Mathlib.Omega.{arith}
-use mathlib.Core.Path.{_≡_, sym, _∙_}
+use mathlib.Core.Path.{refl}
 use Rattle.model.specs.declared.Kind.the-variants.{Traced}
 use Rattle.model.specs.Headers.{tuple}
 use Rattle.model.specs.Words.{State, stateOf}
-use Rattle.naming.specs.declared.Field.the-variants.{At}
-use Rattle.objects.specs.Reached.{reached}
 use Rattle.model.proofs.Refusing.{said}
-use Rattle.objects.proofs.ReachedFields.{by-field, by-refusal, Reaches, reaches, store-reached}
+use Rattle.objects.proofs.ReachedFields.{Reaches, within, by-field, by-refusal, store-reached}
 use borrow.Author.Needs.{needs}
 use Rattle.objects.proofs.store.Statement.{statement}
 use Rattle.objects.proofs.store.Tie as tie
@@ -20,19 +18,19 @@ use Rattle.objects.proofs.reach.Reads as reach-reads
 abbrev start : tie.Start → State
 start c = stateOf (c .args .heap .now) (c .args .roots .now) (c .args .«record»)
 
-found-at : (c : tie.After-found) → let s = c .before .before .before .before .before .before in
-    reached tuple Traced (s .args .object) (s .args .field) (s .args .from) (start s) ≡ At (c .found .given .0 .0)
-found-at c = sym (c .before .before .reach .ensures) ∙ c .found .given .1
+abbrev origin : tie.After-target → tie.Start
+origin c = c .before .before .before .before .before .before
 
-reached-at : (c : tie.After-found) → let s = c .before .before .before .before .before .before in
-    Reaches (start s) (s .args .object) (s .args .from) (c .found .given .0 .0)
-reached-at c = reaches _ _ _ _ _ _ _ (found-at c)
+-- the field that was reached lies in the heap, and the roots are there
+reached-at : (c : tie.After-target) → let s = origin c in
+    Reaches (start s) (s .args .object) (s .args .from) (c .target .given .0 .0)
+reached-at c = within tuple Traced _ _ _ _ (c .before .before .reach .ensures) refl (c .target .given .1)
 
 reach-requires : tie.Need-reach-requires
 reach-requires c κs = search needs
 
-enum-known-found : tie.Need-enum-known-found
-enum-known-found c = search needs
+enum-known-target : tie.Need-enum-known-target
+enum-known-target c = search needs
 
 mul-heap : tie.Need-mul-heap
 mul-heap c = let r = reached-at (c .before) in search needs
@@ -49,8 +47,8 @@ slice-write-heap c = let r = reached-at (c .before .before) in omega arith
 say-requires : tie.Need-say-requires
 say-requires c κs = search needs
 
-enum-known-found-2 : tie.Need-enum-known-found-2
-enum-known-found-2 c = search needs
+enum-known-target-2 : tie.Need-enum-known-target-2
+enum-known-target-2 c = search needs
 
 say-requires-2 : tie.Need-say-requires-2
 say-requires-2 c κs = search needs
@@ -60,30 +58,31 @@ same-length c = search needs
 
 returns : tie.Need-returns
 returns c =
+    let target = c .before .before .before in
     said _ _ (c .say .ensures)
-    (by-field _ _ (store-reached _ _ _ _ _) (found-at (c .before .before .before)))
+    (by-field tuple Traced _ _ _ _ (target .before .before .reach .ensures) refl _ (store-reached _ _ _ _ _) (target .target .given .1))
 
 same-length-2 : tie.Need-same-length-2
 same-length-2 c = search needs
 
 returns-2 : tie.Need-returns-2
 returns-2 c =
+    let target = c .before .before in
     said _ _ (c .say2 .ensures)
-    (by-refusal _ _ (store-reached _ _ _ _ _)
-    (sym (c .before .before .before .before .reach .ensures) ∙ c .before .before .found2 .given .1))
+    (by-refusal tuple Traced _ _ _ _ (target .before .before .reach .ensures) refl _ (store-reached _ _ _ _ _) (target .target2 .given .1))
 
 pub store-spec : {M : Type 1} → statement M
 store-spec =
     tie.close
     (tie.spec
     reach-requires
-    enum-known-found
+    enum-known-target
     mul-heap
     shared-slice-read-heap
     mul-heap-2
     slice-write-heap
     say-requires
-    enum-known-found-2
+    enum-known-target-2
     say-requires-2
     same-length
     returns
