@@ -1,4 +1,8 @@
--- The types of what the thin calls take by value and answer, and the struct that the by-value calls return. Assumes nothing.
+-- The types of what the thin calls take by value and answer, the struct that the by-value calls return, and what a thin call
+-- promises.
+use mathlib.Core.Path.{_≡_}
+use Prim.Native.Nat.{ℕ}
+use mathlib.Core.List.{List}
 use mir.Syntax.{Width, w32, w64, tyInt}
 use mir.Val.{vint, ofZ}
 use denote.Plain.{UInt, uint-tells, uint-makes, uint-lawful}
@@ -7,6 +11,10 @@ use denote.Struct.Laws as LL
 use denote.Enum.Enum.{Few, Plainss, formOf}
 use denote.Enum.Declared.{Declared, variants, shape, row}
 use denote.Enum.Laws as EL
+use Rattle.model.specs.declared.Record.{Record}
+use Rattle.model.specs.declared.Answer.{Answer}
+use Rattle.model.specs.Words.{State, stateOf}
+use Rattle.model.specs.Answers.{Outcome, says}
 use Rattle.model.proofs.Answer as N
 use Rattle.model.proofs.Answer.Laws as N′
 use Rattle.model.proofs.Kind as K
@@ -85,3 +93,7 @@ answered = record {
   record-is = λ r vs is. LL.owed O.the-type O′.the-laws r vs is .1 .0;
   lawful = λ 𝓤 H A W. LL.lawful O.the-type O′.the-laws 𝓤 H A W;
 }
+
+-- the promise by a call's definition: of what is lent, the answer and what is left
+abbrev pub as-defined : (State → Outcome State) → List ℕ → List ℕ → Record → Answer → List ℕ → List ℕ → Record → Type 0
+as-defined defined heap roots q a heap′ roots′ q′ = says a (stateOf heap′ roots′ q′) ≡ defined (stateOf heap roots q)

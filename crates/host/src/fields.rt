@@ -4,13 +4,14 @@ ghost use mathlib.Core.Path.{_≡_};
 ghost use Rattle.model.specs.Headers as Layouts;
 ghost use Rattle.model.specs.Contracts.{thinLent, thinOutcome};
 ghost use Rattle.model.specs.Calls as Calls;
+use super::lent;
 use model::Answer;
 use model::Record;
 
 // Root `to` gets the word in a field of a traced object: done, or SHAPE, ROOT, OBJECT, KIND or FIELD. Leaves
 // the heap and the record.
 pub fn load(
-    heap: &[u32],
+    heap: &mut [u32],
     roots: &mut [u32],
     record: &mut Record,
     object: usize,
@@ -20,7 +21,7 @@ pub fn load(
     ensures { λ r. ⌜ thinOutcome r heap roots «record»
         ≡ Calls.load Layouts.tuple object field to (thinLent heap roots «record») ⌝ }
 {
-    let answered = objects::load(heap, roots, *record, object, field, to);
+    let answered = lent::load(heap, roots, *record, object, field, to);
     *record = answered.record;
     answered.answer
 }
@@ -29,7 +30,7 @@ pub fn load(
 // roots, the record and all other heap words.
 pub fn store(
     heap: &mut [u32],
-    roots: &[u32],
+    roots: &mut [u32],
     record: &mut Record,
     object: usize,
     field: usize,
@@ -38,15 +39,15 @@ pub fn store(
     ensures { λ r. ⌜ thinOutcome r heap roots «record»
         ≡ Calls.store Layouts.tuple object field from (thinLent heap roots «record») ⌝ }
 {
-    let answered = objects::store(heap, roots, *record, object, field, from);
+    let answered = lent::store(heap, roots, *record, object, field, from);
     *record = answered.record;
     answered.answer
 }
 
 // The raw word in a field of an untraced object; or SHAPE, ROOT, OBJECT, KIND or FIELD. Leaves all as it was.
 pub fn raw_read(
-    heap: &[u32],
-    roots: &[u32],
+    heap: &mut [u32],
+    roots: &mut [u32],
     record: &mut Record,
     object: usize,
     field: usize,
@@ -54,7 +55,7 @@ pub fn raw_read(
     ensures { λ r. ⌜ thinOutcome r heap roots «record»
         ≡ Calls.rawRead Layouts.tuple object field (thinLent heap roots «record») ⌝ }
 {
-    let answered = objects::raw_read(heap, roots, *record, object, field);
+    let answered = lent::raw_read(heap, roots, *record, object, field);
     *record = answered.record;
     answered.answer
 }
@@ -63,7 +64,7 @@ pub fn raw_read(
 // roots, the record and all other heap words.
 pub fn raw_write(
     heap: &mut [u32],
-    roots: &[u32],
+    roots: &mut [u32],
     record: &mut Record,
     object: usize,
     field: usize,
@@ -72,7 +73,7 @@ pub fn raw_write(
     ensures { λ r. ⌜ thinOutcome r heap roots «record»
         ≡ Calls.rawWrite Layouts.tuple object field number (thinLent heap roots «record») ⌝ }
 {
-    let answered = objects::raw_write(heap, roots, *record, object, field, number);
+    let answered = lent::raw_write(heap, roots, *record, object, field, number);
     *record = answered.record;
     answered.answer
 }

@@ -2,5 +2,6 @@
 // Nothing in the library calls these. No call has a `requires`: each answers for every heap, roots and record
 // that it is lent, and its promise is one equation to the call's definition in `model`.
 pub mod fields;
+mod lent;
 pub mod roots;
 pub mod whole;

@@ -3,13 +3,14 @@ ghost use mathlib.Core.Path.{_≡_};
 ghost use Rattle.model.specs.Headers as Layouts;
 ghost use Rattle.model.specs.Contracts.{thinLent, thinOutcome};
 ghost use Rattle.model.specs.Calls as Calls;
+use super::lent;
 use model::Answer;
 use model::Record;
 
 // Root `to` gets an integer's word: done, or SHAPE, ROOT or RANGE. Leaves the heap and the record, and looks
 // at no heap word.
 pub fn set_integer(
-    heap: &[u32],
+    heap: &mut [u32],
     roots: &mut [u32],
     record: &mut Record,
     to: usize,
@@ -18,48 +19,60 @@ pub fn set_integer(
     ensures { λ r. ⌜ thinOutcome r heap roots «record»
         ≡ Calls.setInteger to value (thinLent heap roots «record») ⌝ }
 {
-    let answered = blind::set_integer(heap, roots, *record, to, value);
+    let answered = lent::set_integer(heap, roots, *record, to, value);
     *record = answered.record;
     answered.answer
 }
 
 // Root `to` gets null: done, or SHAPE or ROOT. Leaves the heap and the record, and looks at no heap word.
-pub fn set_null(heap: &[u32], roots: &mut [u32], record: &mut Record, to: usize) -> Answer
+pub fn set_null(heap: &mut [u32], roots: &mut [u32], record: &mut Record, to: usize) -> Answer
     ensures { λ r. ⌜ thinOutcome r heap roots «record» ≡ Calls.setNull to (thinLent heap roots «record») ⌝ }
 {
-    let answered = blind::set_null(heap, roots, *record, to);
+    let answered = lent::set_null(heap, roots, *record, to);
     *record = answered.record;
     answered.answer
 }
 
 // Root `to` gets root `from`'s word, whatever it is: done, or SHAPE or ROOT. Leaves the heap and the record,
 // and looks at no heap word.
-pub fn copy(heap: &[u32], roots: &mut [u32], record: &mut Record, from: usize, to: usize) -> Answer
+pub fn copy(
+    heap: &mut [u32],
+    roots: &mut [u32],
+    record: &mut Record,
+    from: usize,
+    to: usize,
+) -> Answer
     ensures { λ r. ⌜ thinOutcome r heap roots «record» ≡ Calls.copy from to (thinLent heap roots «record») ⌝ }
 {
-    let answered = blind::copy(heap, roots, *record, from, to);
+    let answered = lent::copy(heap, roots, *record, from, to);
     *record = answered.record;
     answered.answer
 }
 
 // Whether two roots hold equal words: yes or no, or SHAPE or ROOT. Leaves all as it was, and looks at no heap
 // word.
-pub fn same(heap: &[u32], roots: &[u32], record: &mut Record, one: usize, other: usize) -> Answer
+pub fn same(
+    heap: &mut [u32],
+    roots: &mut [u32],
+    record: &mut Record,
+    one: usize,
+    other: usize,
+) -> Answer
     ensures { λ r. ⌜ thinOutcome r heap roots «record»
         ≡ Calls.same one other (thinLent heap roots «record») ⌝ }
 {
-    let answered = blind::same(heap, roots, *record, one, other);
+    let answered = lent::same(heap, roots, *record, one, other);
     *record = answered.record;
     answered.answer
 }
 
 // What a root holds: null, an integer, or an object with its kind and field count; or SHAPE, ROOT or OBJECT.
 // Leaves all as it was. Of the heap it looks at the header that the root names, and at no field.
-pub fn inspect(heap: &[u32], roots: &[u32], record: &mut Record, root: usize) -> Answer
+pub fn inspect(heap: &mut [u32], roots: &mut [u32], record: &mut Record, root: usize) -> Answer
     ensures { λ r. ⌜ thinOutcome r heap roots «record»
         ≡ Calls.inspect Layouts.tuple root (thinLent heap roots «record») ⌝ }
 {
-    let answered = views::inspect(heap, roots, *record, root);
+    let answered = lent::inspect(heap, roots, *record, root);
     *record = answered.record;
     answered.answer
 }

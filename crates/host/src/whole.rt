@@ -5,6 +5,7 @@ ghost use Rattle.model.specs.Headers as Layouts;
 ghost use Rattle.model.specs.Contracts.{thinLent, thinOutcome};
 ghost use Rattle.model.specs.Calls as Calls;
 ghost use Rattle.model.specs.Sessions as Sessions;
+use super::lent;
 use model::Answer;
 use model::Call;
 use model::Kind;
@@ -12,21 +13,21 @@ use model::Record;
 
 // Clears all heap words and sets the record to half A and free index 1: done, or the heap-length part of
 // SHAPE, and then the record stays. Leaves the roots, and looks neither at them nor at what the record says.
-pub fn fresh(heap: &mut [u32], roots: &[u32], record: &mut Record) -> Answer
+pub fn fresh(heap: &mut [u32], roots: &mut [u32], record: &mut Record) -> Answer
     ensures { λ r. ⌜ thinOutcome r heap roots «record» ≡ Calls.fresh (thinLent heap roots «record») ⌝ }
 {
-    let answered = blind::fresh(heap, roots, *record);
+    let answered = lent::fresh(heap, roots, *record);
     *record = answered.record;
     answered.answer
 }
 
 // Whether the heap is sound, or SHAPE. Leaves all as it was: the marks that it makes in the heap are cleared
 // again.
-pub fn check(heap: &mut [u32], roots: &[u32], record: &mut Record) -> Answer
+pub fn check(heap: &mut [u32], roots: &mut [u32], record: &mut Record) -> Answer
     ensures { λ r. ⌜ thinOutcome r heap roots «record»
         ≡ Calls.check Layouts.tuple (thinLent heap roots «record») ⌝ }
 {
-    let answered = checker::check(heap, roots, *record);
+    let answered = lent::check(heap, roots, *record);
     *record = answered.record;
     answered.answer
 }

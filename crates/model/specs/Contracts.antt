@@ -26,8 +26,8 @@ abbrev pub outcome : Answered → Behind (List ℕ) → Behind (List ℕ) → Ou
 outcome r heap roots = says (r .answer) (leaves heap roots (r .«record»))
 
 -- of a thin call, whose record is lent too
-abbrev pub thinBehind : Behind (List ℕ) → Behind (List ℕ) → Behind Record → State
-thinBehind heap roots q = lent heap roots (q .entry .now)
+abbrev pub thinLent : Behind (List ℕ) → Behind (List ℕ) → Behind Record → State
+thinLent heap roots q = lent heap roots (q .entry .now)
 
 abbrev pub thinOutcome : Answer → Behind (List ℕ) → Behind (List ℕ) → Behind Record → Outcome State
 thinOutcome a heap roots q = says a (leaves heap roots (q .exit .now))

@@ -1,31 +1,17 @@
--- `fields::store` meets its contract: its callee meets its own, and the walk of the code is that of its pattern.
-use mathlib.Core.Path.{_≡_}
-use contract.Running.{givenOf, tables, tablesOf}
-use denote.Triple.Spec.{tripleOf}
-use denote.Triple.Table.{entered, cited}
-use Rattle.model.specs.Words.{stateOf}
-use Rattle.model.specs.Headers as Layouts
-use Rattle.model.specs.Answers.{says}
+-- `fields::store` meets its contract: its callee meets its own, and the walk of the code is that of three values.
+use Rattle.model.specs.Headers.{tuple}
 use Rattle.model.specs.Calls as Calls
-use Rattle.host.proofs.ByValueTypes.{answered, usize-by-value}
-use Rattle.host.proofs.ThinHeap3 as walk
-use Rattle.objects.proofs.store as callee
-use Rattle.objects.proofs.store.Symbol as callee-def
-use Rattle.objects.proofs.store.Symbol.{name as #callee}
-use Rattle.objects.proofs.store.Met as callee-thm
+use Rattle.host.proofs.ByValueTypes.{answered, usize-by-value, as-defined}
+use Rattle.host.proofs.Thin3.{thin-spec}
+use Rattle.host.proofs.lent.store.Symbol as callee
+use Rattle.host.proofs.lent.store.Met.{met}
 use Rattle.host.proofs.fields.store.Key.{name as #self}
-use Rattle.host.proofs.fields.store as self
-use Rattle.host.proofs.fields.store.Statement as stated
+use Rattle.host.proofs.fields.store.Statement.{statement}
 use Rattle.host.proofs.fields.store.Code as code
 
-pub store-spec : {M : Type 1} → stated.statement M
-unfolding code.routine tablesOf
+pub store-spec : {M : Type 1} → statement M
+unfolding code.routine
 store-spec 𝓤 H 𝓜 𝓖 𝓡 =
-    entered 𝓤 H (tripleOf 𝓤 H (𝓖 .A) self.signature (self.spec 𝓤 H (𝓖 .A) (𝓜 .mem) (𝓡 .run)))
-    (tables 𝓤 H 𝓜 𝓡 code.env .C) (tables 𝓤 H 𝓜 𝓡 code.env .Λ) #self code.function (code.unfolded 𝓤 H 𝓜 𝓡)
-    (walk.thin-meets answered usize-by-value usize-by-value usize-by-value
-    (λ object field from heap roots q a heap′ q′.
-    says a (stateOf heap′ roots q′) ≡ Calls.store Layouts.tuple object field from (stateOf heap roots q))
-    #callee 𝓤 H (𝓖 .A) (givenOf 𝓤 H 𝓜 𝓖) (tablesOf 𝓤 H 𝓜 (tables 𝓤 H 𝓜 𝓡 code.env))
-    (cited 𝓤 H (tripleOf 𝓤 H (𝓖 .A) callee.signature (callee.spec 𝓤 H (𝓖 .A) (𝓜 .mem) (𝓡 .run)))
-    𝓜 𝓡 code.env #callee callee-def.routine code.calls-objects·store (callee-thm.met 𝓤 H 𝓜 𝓖 𝓡)))
+    thin-spec answered usize-by-value usize-by-value usize-by-value
+    (λ object field from. as-defined (Calls.store tuple object field from))
+    callee.name 𝓤 H 𝓜 𝓖 𝓡 code.env #self callee.routine code.calls-host·lent·store (code.unfolded 𝓤 H 𝓜 𝓡) (met 𝓤 H 𝓜 𝓖 𝓡)

@@ -1,30 +1,16 @@
--- `roots::copy` meets its contract: its callee meets its own, and the walk of the code is that of its pattern.
-use mathlib.Core.Path.{_≡_}
-use contract.Running.{givenOf, tables, tablesOf}
-use denote.Triple.Spec.{tripleOf}
-use denote.Triple.Table.{entered, cited}
-use Rattle.model.specs.Words.{stateOf}
-use Rattle.model.specs.Answers.{says}
+-- `roots::copy` meets its contract: its callee meets its own, and the walk of the code is that of two values.
 use Rattle.model.specs.Calls as Calls
-use Rattle.host.proofs.ByValueTypes.{answered, usize-by-value}
-use Rattle.host.proofs.ThinRoots2 as walk
-use Rattle.blind.proofs.roots.copy as callee
-use Rattle.blind.proofs.roots.copy.Symbol as callee-def
-use Rattle.blind.proofs.roots.copy.Symbol.{name as #callee}
-use Rattle.blind.proofs.roots.copy.Met as callee-thm
+use Rattle.host.proofs.ByValueTypes.{answered, usize-by-value, as-defined}
+use Rattle.host.proofs.Thin2.{thin-spec}
+use Rattle.host.proofs.lent.copy.Symbol as callee
+use Rattle.host.proofs.lent.copy.Met.{met}
 use Rattle.host.proofs.roots.copy.Key.{name as #self}
-use Rattle.host.proofs.roots.copy as self
-use Rattle.host.proofs.roots.copy.Statement as stated
+use Rattle.host.proofs.roots.copy.Statement.{statement}
 use Rattle.host.proofs.roots.copy.Code as code
 
-pub copy-spec : {M : Type 1} → stated.statement M
-unfolding code.routine tablesOf
+pub copy-spec : {M : Type 1} → statement M
+unfolding code.routine
 copy-spec 𝓤 H 𝓜 𝓖 𝓡 =
-    entered 𝓤 H (tripleOf 𝓤 H (𝓖 .A) self.signature (self.spec 𝓤 H (𝓖 .A) (𝓜 .mem) (𝓡 .run)))
-    (tables 𝓤 H 𝓜 𝓡 code.env .C) (tables 𝓤 H 𝓜 𝓡 code.env .Λ) #self code.function (code.unfolded 𝓤 H 𝓜 𝓡)
-    (walk.thin-meets answered usize-by-value usize-by-value
-    (λ from to heap roots q a roots′ q′.
-    says a (stateOf heap roots′ q′) ≡ Calls.copy from to (stateOf heap roots q))
-    #callee 𝓤 H (𝓖 .A) (givenOf 𝓤 H 𝓜 𝓖) (tablesOf 𝓤 H 𝓜 (tables 𝓤 H 𝓜 𝓡 code.env))
-    (cited 𝓤 H (tripleOf 𝓤 H (𝓖 .A) callee.signature (callee.spec 𝓤 H (𝓖 .A) (𝓜 .mem) (𝓡 .run)))
-    𝓜 𝓡 code.env #callee callee-def.routine code.calls-blind·roots·copy (callee-thm.met 𝓤 H 𝓜 𝓖 𝓡)))
+    thin-spec answered usize-by-value usize-by-value
+    (λ from to. as-defined (Calls.copy from to))
+    callee.name 𝓤 H 𝓜 𝓖 𝓡 code.env #self callee.routine code.calls-host·lent·copy (code.unfolded 𝓤 H 𝓜 𝓡) (met 𝓤 H 𝓜 𝓖 𝓡)

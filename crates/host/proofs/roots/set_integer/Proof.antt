@@ -1,30 +1,16 @@
--- `roots::set_integer` meets its contract: its callee meets its own, and the walk of the code is that of its pattern.
-use mathlib.Core.Path.{_≡_}
-use contract.Running.{givenOf, tables, tablesOf}
-use denote.Triple.Spec.{tripleOf}
-use denote.Triple.Table.{entered, cited}
-use Rattle.model.specs.Words.{stateOf}
-use Rattle.model.specs.Answers.{says}
+-- `roots::set_integer` meets its contract: its callee meets its own, and the walk of the code is that of two values.
 use Rattle.model.specs.Calls as Calls
-use Rattle.host.proofs.ByValueTypes.{answered, i64-by-value, usize-by-value}
-use Rattle.host.proofs.ThinRoots2 as walk
-use Rattle.blind.proofs.integer.set_integer as callee
-use Rattle.blind.proofs.integer.set_integer.Symbol as callee-def
-use Rattle.blind.proofs.integer.set_integer.Symbol.{name as #callee}
-use Rattle.blind.proofs.integer.set_integer.Met as callee-thm
+use Rattle.host.proofs.ByValueTypes.{answered, i64-by-value, usize-by-value, as-defined}
+use Rattle.host.proofs.Thin2.{thin-spec}
+use Rattle.host.proofs.lent.set_integer.Symbol as callee
+use Rattle.host.proofs.lent.set_integer.Met.{met}
 use Rattle.host.proofs.roots.set_integer.Key.{name as #self}
-use Rattle.host.proofs.roots.set_integer as self
-use Rattle.host.proofs.roots.set_integer.Statement as stated
+use Rattle.host.proofs.roots.set_integer.Statement.{statement}
 use Rattle.host.proofs.roots.set_integer.Code as code
 
-pub set-integer-spec : {M : Type 1} → stated.statement M
-unfolding code.routine tablesOf
+pub set-integer-spec : {M : Type 1} → statement M
+unfolding code.routine
 set-integer-spec 𝓤 H 𝓜 𝓖 𝓡 =
-    entered 𝓤 H (tripleOf 𝓤 H (𝓖 .A) self.signature (self.spec 𝓤 H (𝓖 .A) (𝓜 .mem) (𝓡 .run)))
-    (tables 𝓤 H 𝓜 𝓡 code.env .C) (tables 𝓤 H 𝓜 𝓡 code.env .Λ) #self code.function (code.unfolded 𝓤 H 𝓜 𝓡)
-    (walk.thin-meets answered usize-by-value i64-by-value
-    (λ to value heap roots q a roots′ q′.
-    says a (stateOf heap roots′ q′) ≡ Calls.setInteger to value (stateOf heap roots q))
-    #callee 𝓤 H (𝓖 .A) (givenOf 𝓤 H 𝓜 𝓖) (tablesOf 𝓤 H 𝓜 (tables 𝓤 H 𝓜 𝓡 code.env))
-    (cited 𝓤 H (tripleOf 𝓤 H (𝓖 .A) callee.signature (callee.spec 𝓤 H (𝓖 .A) (𝓜 .mem) (𝓡 .run)))
-    𝓜 𝓡 code.env #callee callee-def.routine code.calls-integers·set-integer·set-integer (callee-thm.met 𝓤 H 𝓜 𝓖 𝓡)))
+    thin-spec answered usize-by-value i64-by-value
+    (λ to value. as-defined (Calls.setInteger to value))
+    callee.name 𝓤 H 𝓜 𝓖 𝓡 code.env #self callee.routine code.calls-host·lent·set-integer (code.unfolded 𝓤 H 𝓜 𝓡) (met 𝓤 H 𝓜 𝓖 𝓡)

@@ -1,31 +1,17 @@
--- `whole::allocate` meets its contract: its callee meets its own, and the walk of the code is that of its pattern.
-use mathlib.Core.Path.{_≡_}
-use contract.Running.{givenOf, tables, tablesOf}
-use denote.Triple.Spec.{tripleOf}
-use denote.Triple.Table.{entered, cited}
-use Rattle.model.specs.Words.{stateOf}
-use Rattle.model.specs.Headers as Layouts
-use Rattle.model.specs.Answers.{says}
+-- `whole::allocate` meets its contract: its callee meets its own, and the walk of the code is that of three values.
+use Rattle.model.specs.Headers.{tuple}
 use Rattle.model.specs.Calls as Calls
-use Rattle.host.proofs.ByValueTypes.{answered, kind-by-value, usize-by-value}
-use Rattle.host.proofs.ThinBoth3 as walk
-use Rattle.allocator.proofs.allocate as callee
-use Rattle.allocator.proofs.allocate.Symbol as callee-def
-use Rattle.allocator.proofs.allocate.Symbol.{name as #callee}
-use Rattle.allocator.proofs.allocate.Met as callee-thm
+use Rattle.host.proofs.ByValueTypes.{answered, kind-by-value, usize-by-value, as-defined}
+use Rattle.host.proofs.Thin3.{thin-spec}
+use Rattle.allocator.proofs.allocate.Symbol as callee
+use Rattle.allocator.proofs.allocate.Met.{met}
 use Rattle.host.proofs.whole.allocate.Key.{name as #self}
-use Rattle.host.proofs.whole.allocate as self
-use Rattle.host.proofs.whole.allocate.Statement as stated
+use Rattle.host.proofs.whole.allocate.Statement.{statement}
 use Rattle.host.proofs.whole.allocate.Code as code
 
-pub allocate-spec : {M : Type 1} → stated.statement M
-unfolding code.routine tablesOf
+pub allocate-spec : {M : Type 1} → statement M
+unfolding code.routine
 allocate-spec 𝓤 H 𝓜 𝓖 𝓡 =
-    entered 𝓤 H (tripleOf 𝓤 H (𝓖 .A) self.signature (self.spec 𝓤 H (𝓖 .A) (𝓜 .mem) (𝓡 .run)))
-    (tables 𝓤 H 𝓜 𝓡 code.env .C) (tables 𝓤 H 𝓜 𝓡 code.env .Λ) #self code.function (code.unfolded 𝓤 H 𝓜 𝓡)
-    (walk.thin-meets answered kind-by-value usize-by-value usize-by-value
-    (λ kind fields to heap roots q a heap′ roots′ q′.
-    says a (stateOf heap′ roots′ q′) ≡ Calls.allocate Layouts.tuple kind fields to (stateOf heap roots q))
-    #callee 𝓤 H (𝓖 .A) (givenOf 𝓤 H 𝓜 𝓖) (tablesOf 𝓤 H 𝓜 (tables 𝓤 H 𝓜 𝓡 code.env))
-    (cited 𝓤 H (tripleOf 𝓤 H (𝓖 .A) callee.signature (callee.spec 𝓤 H (𝓖 .A) (𝓜 .mem) (𝓡 .run)))
-    𝓜 𝓡 code.env #callee callee-def.routine code.calls-allocator·allocate (callee-thm.met 𝓤 H 𝓜 𝓖 𝓡)))
+    thin-spec answered kind-by-value usize-by-value usize-by-value
+    (λ kind fields to. as-defined (Calls.allocate tuple kind fields to))
+    callee.name 𝓤 H 𝓜 𝓖 𝓡 code.env #self callee.routine code.calls-allocator·allocate (code.unfolded 𝓤 H 𝓜 𝓡) (met 𝓤 H 𝓜 𝓖 𝓡)

@@ -1,30 +1,15 @@
--- `whole::fresh` meets its contract: its callee meets its own, and the walk of the code is that of its pattern.
-use mathlib.Core.Path.{_≡_}
-use contract.Running.{givenOf, tables, tablesOf}
-use denote.Triple.Spec.{tripleOf}
-use denote.Triple.Table.{entered, cited}
-use Rattle.model.specs.Words.{stateOf}
-use Rattle.model.specs.Answers.{says}
+-- `whole::fresh` meets its contract: its callee meets its own, and the walk of the code is that of no value.
 use Rattle.model.specs.Calls as Calls
-use Rattle.host.proofs.ByValueTypes.{answered}
-use Rattle.host.proofs.ThinHeap0 as walk
-use Rattle.blind.proofs.beginning.fresh as callee
-use Rattle.blind.proofs.beginning.fresh.Symbol as callee-def
-use Rattle.blind.proofs.beginning.fresh.Symbol.{name as #callee}
-use Rattle.blind.proofs.beginning.fresh.Met as callee-thm
+use Rattle.host.proofs.ByValueTypes.{answered, as-defined}
+use Rattle.host.proofs.Thin0.{thin-spec}
+use Rattle.host.proofs.lent.fresh.Symbol as callee
+use Rattle.host.proofs.lent.fresh.Met.{met}
 use Rattle.host.proofs.whole.fresh.Key.{name as #self}
-use Rattle.host.proofs.whole.fresh as self
-use Rattle.host.proofs.whole.fresh.Statement as stated
+use Rattle.host.proofs.whole.fresh.Statement.{statement}
 use Rattle.host.proofs.whole.fresh.Code as code
 
-pub fresh-spec : {M : Type 1} → stated.statement M
-unfolding code.routine tablesOf
+pub fresh-spec : {M : Type 1} → statement M
+unfolding code.routine
 fresh-spec 𝓤 H 𝓜 𝓖 𝓡 =
-    entered 𝓤 H (tripleOf 𝓤 H (𝓖 .A) self.signature (self.spec 𝓤 H (𝓖 .A) (𝓜 .mem) (𝓡 .run)))
-    (tables 𝓤 H 𝓜 𝓡 code.env .C) (tables 𝓤 H 𝓜 𝓡 code.env .Λ) #self code.function (code.unfolded 𝓤 H 𝓜 𝓡)
-    (walk.thin-meets answered
-    (λ heap roots q a heap′ q′.
-    says a (stateOf heap′ roots q′) ≡ Calls.fresh (stateOf heap roots q))
-    #callee 𝓤 H (𝓖 .A) (givenOf 𝓤 H 𝓜 𝓖) (tablesOf 𝓤 H 𝓜 (tables 𝓤 H 𝓜 𝓡 code.env))
-    (cited 𝓤 H (tripleOf 𝓤 H (𝓖 .A) callee.signature (callee.spec 𝓤 H (𝓖 .A) (𝓜 .mem) (𝓡 .run)))
-    𝓜 𝓡 code.env #callee callee-def.routine code.calls-blind·beginning·fresh (callee-thm.met 𝓤 H 𝓜 𝓖 𝓡)))
+    thin-spec answered (as-defined Calls.fresh)
+    callee.name 𝓤 H 𝓜 𝓖 𝓡 code.env #self callee.routine code.calls-host·lent·fresh (code.unfolded 𝓤 H 𝓜 𝓡) (met 𝓤 H 𝓜 𝓖 𝓡)
