@@ -100,12 +100,12 @@ abbrev pub sixteenBits : Machine
 sixteenBits = changed (λ c s o. refuse (ltb 65535 (halfWords (s .heap))) Why.Shape s o)
 
 -- on any words with halves of 65,536
-pub sixteen-bits-breaks-1 : (words : List ℕ) → D3.Halves words 65536 → D1.Demand1 tuple sixteenBits → ⊥
+pub sixteen-bits-breaks-1 : (heap : List ℕ) → D3.Halves heap 65536 → D1.Demand1 tuple sixteenBits → ⊥
 unfolding refuse
-sixteen-bits-breaks-1 words v d =
-    let s = Worked.state A 1 words [] in
-    let half : halfWords words ≡ 65536 = omega (arith, v .length-is) in
-    let h : Shaped (Worked.state A 1 words []) =
+sixteen-bits-breaks-1 heap v d =
+    let s = Worked.state A 1 heap [] in
+    let half : halfWords heap ≡ 65536 = omega (arith, v .length-is) in
+    let h : Shaped (Worked.state A 1 heap []) =
     record {
       odd = omega (arith, v .length-is);
       pos = omega arith;
@@ -114,8 +114,8 @@ sixteen-bits-breaks-1 words v d =
       low = omega arith;
       high = omega arith;
     } in
-    check-refused (Worked.state A 1 words []) (unshaped (Worked.state A 1 words []) h)
-    (d .session Ask.Check (Worked.state A 1 words []) .exactly Why.Shape .0 (rw half))
+    check-refused (Worked.state A 1 heap []) (unshaped (Worked.state A 1 heap []) h)
+    (d .session Ask.Check (Worked.state A 1 heap []) .exactly Why.Shape .0 (rw half))
 
 -- ---- demand 2
 
@@ -188,7 +188,7 @@ keepsWords =
 -- three words, any record, and n null roots
 abbrev threeWords : (w n : ℕ) → n ≤ maxRoots → D3.Session
 threeWords w n few = record {
-  words = replicate 3 w;
+  heap = replicate 3 w;
   S = 1;
   halves = record { length-is = refl; least = omega arith; most = omega arith };
   nullRoots = n;

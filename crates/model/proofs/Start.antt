@@ -36,21 +36,21 @@ fresh-good s e = rw e
 module _ (Y : Layout) (e : D3.Session) where
   -- what is begun: the same number of words, all 0, half A, free index 1
   abbrev blank : State
-  blank = stateOf (replicate (length (e .words)) 0) (replicate (e .nullRoots) 0) freshRecord
+  blank = stateOf (replicate (length (e .heap)) 0) (replicate (e .nullRoots) 0) freshRecord
 
   pub begun-is : D3.begun (machine Y) e ≡ blank
   begun-is =
       let v = e .halves in
       ap (λ o. o .left)
-      (fresh-good (stateOf (e .words) (replicate (e .nullRoots) 0) (e .«record»))
+      (fresh-good (stateOf (e .heap) (replicate (e .nullRoots) 0) (e .«record»))
       (rw (
-        ne-eqb (length (e .words) % 2) 0 (λ z. omega (arith, v .length-is)),
-        le-ltb (length (e .words)) 3 (omega (arith, v .length-is, v .least)),
-        le-ltb maxWords (length (e .words)) (omega (arith, v .length-is, v .most)),
+        ne-eqb (length (e .heap) % 2) 0 (λ z. omega (arith, v .length-is)),
+        le-ltb (length (e .heap)) 3 (omega (arith, v .length-is, v .least)),
+        le-ltb maxWords (length (e .heap)) (omega (arith, v .length-is, v .most)),
       )))
 
   blank-length : length (blank .heap) ≡ 2 * e .S + 1
-  blank-length = length-replicate (length (e .words)) 0 ∙ e .halves .length-is
+  blank-length = length-replicate (length (e .heap)) 0 ∙ e .halves .length-is
 
   pub blank-half : halfWords (blank .heap) ≡ e .S
   blank-half = omega (arith, blank-length)
@@ -68,9 +68,9 @@ module _ (Y : Layout) (e : D3.Session) where
       low = omega arith;
       high = omega (arith, blank-half);
     };
-    null = getD-same {A = ℕ} (length (e .words)) 0 0;
-    idle = λ i l k. getD-same {A = ℕ} (length (e .words)) i 0;
-    rest = λ i l k. getD-same {A = ℕ} (length (e .words)) i 0;
+    null = getD-same {A = ℕ} (length (e .heap)) 0 0;
+    idle = λ i l k. getD-same {A = ℕ} (length (e .heap)) i 0;
+    rest = λ i l k. getD-same {A = ℕ} (length (e .heap)) i 0;
     tiled = tiles-here Y (blank .heap) 1 (1 - 1);
     roots = λ r l. rw (getD-same {A = ℕ} (e .nullRoots) r 0) (zero-value Y (headers Y blank));
     values = λ i f m k l. in-nil i (rw (headers-here Y (blank .heap) 1 (1 - 1)) at m);

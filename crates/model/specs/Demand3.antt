@@ -31,23 +31,23 @@ use Rattle.model.specs.Demand2.{EachOnce}
 -- ---- a session that begins with fresh
 
 -- any words of a legal length: halves of S words
-pub record Halves (words : List ℕ) (S : ℕ) : Type 0 where
-  pub length-is : length words ≡ 2 * S + 1
+pub record Halves (heap : List ℕ) (S : ℕ) : Type 0 where
+  pub length-is : length heap ≡ 2 * S + 1
   pub least : 1 ≤ S
   pub most : S ≤ maxHalf
 
 -- such words, any record, and a legal number of null roots
 pub record Session : Type 0 where
-  pub words : List ℕ
+  pub heap : List ℕ
   pub S : ℕ
-  pub halves : Halves words S
+  pub halves : Halves heap S
   pub nullRoots : ℕ
   pub few : nullRoots ≤ maxRoots
   pub «record» : Record
 
 -- they are lent and made fresh
 abbrev pub begun : Machine → Session → State
-begun M e = M .fresh (stateOf (e .words) (replicate (e .nullRoots) 0) (e .«record»)) .left
+begun M e = M .fresh (stateOf (e .heap) (replicate (e .nullRoots) 0) (e .«record»)) .left
 
 -- ---- "no room"
 
@@ -67,18 +67,18 @@ carriedOut M (c ∷ cs) s =
 
 -- the words that a call needs, of those that need any
 abbrev pub needed : Call → Option ℕ
-needed (Ask.Allocate k n r) = some (n + 1)
+needed (Ask.Allocate _ fields _) = some (fields + 1)
 needed Ask.Collect = none
 needed Ask.Check = none
-needed (Ask.SetInteger r v) = none
-needed (Ask.SetNull r) = none
-needed (Ask.Copy from to) = none
-needed (Ask.Load r f to) = none
-needed (Ask.Store r f from) = none
-needed (Ask.RawRead r f) = none
-needed (Ask.RawWrite r f x) = none
-needed (Ask.Same r q) = none
-needed (Ask.Inspect r) = none
+needed (Ask.SetInteger _ _) = none
+needed (Ask.SetNull _) = none
+needed (Ask.Copy _ _) = none
+needed (Ask.Load _ _ _) = none
+needed (Ask.Store _ _ _) = none
+needed (Ask.RawRead _ _) = none
+needed (Ask.RawWrite _ _ _) = none
+needed (Ask.Same _ _) = none
+needed (Ask.Inspect _) = none
 
 -- the graph carries the call out, and live words and needed words exceed a half of S words
 pub record Exceeds (S : ℕ) (g : Graph) (c : Call) : Type 0 where

@@ -83,46 +83,46 @@ inspected g (object i) =
 unfoldable pub graphStep : Call → Graph → Outcome Graph
 graphStep Ask.Collect g = onGraphRoots [] g (says (Says.Live (graphLive g)) g)
 graphStep Ask.Check g = onGraphRoots [] g (says Says.Sound g)
-graphStep (Ask.Allocate k n r) g =
-    onGraphRoots (r ∷ []) g
-    (refuse (ltb maxFields n) Why.Count g
-    (says Says.Done (grown k n r g)))
-graphStep (Ask.SetInteger r v) g =
-    onGraphRoots (r ∷ []) g
-    (refuse (not (inRange v)) Why.Range g
-    (says Says.Done (graphWithRoot g r (plain (integer v)))))
-graphStep (Ask.SetNull r) g =
-    onGraphRoots (r ∷ []) g
-    (says Says.Done (graphWithRoot g r (plain null)))
+graphStep (Ask.Allocate kind fields to) g =
+    onGraphRoots (to ∷ []) g
+    (refuse (ltb maxFields fields) Why.Count g
+    (says Says.Done (grown kind fields to g)))
+graphStep (Ask.SetInteger to value) g =
+    onGraphRoots (to ∷ []) g
+    (refuse (not (inRange value)) Why.Range g
+    (says Says.Done (graphWithRoot g to (plain (integer value)))))
+graphStep (Ask.SetNull to) g =
+    onGraphRoots (to ∷ []) g
+    (says Says.Done (graphWithRoot g to (plain null)))
 graphStep (Ask.Copy from to) g =
     onGraphRoots (from ∷ to ∷ []) g
     (says Says.Done (graphWithRoot g to (rootValue g from)))
-graphStep (Ask.Load r f to) g =
-    onGraphRoots (r ∷ to ∷ []) g
-    (onObject g (rootValue g r)
-    (λ i vs. refuse (leb (length vs) f) Why.Field g (says Says.Done (graphWithRoot g to (getD vs f (plain null)))))
+graphStep (Ask.Load root field to) g =
+    onGraphRoots (root ∷ to ∷ []) g
+    (onObject g (rootValue g root)
+    (λ i vs. refuse (leb (length vs) field) Why.Field g (says Says.Done (graphWithRoot g to (getD vs field (plain null)))))
     (wrongKind g))
-graphStep (Ask.Store r f from) g =
-    onGraphRoots (r ∷ from ∷ []) g
-    (onObject g (rootValue g r)
-    (λ i vs. refuse (leb (length vs) f) Why.Field g (says Says.Done (withObject g i (traced (set vs f (rootValue g from))))))
+graphStep (Ask.Store root field from) g =
+    onGraphRoots (root ∷ from ∷ []) g
+    (onObject g (rootValue g root)
+    (λ i vs. refuse (leb (length vs) field) Why.Field g (says Says.Done (withObject g i (traced (set vs field (rootValue g from))))))
     (wrongKind g))
-graphStep (Ask.RawRead r f) g =
-    onGraphRoots (r ∷ []) g
-    (onObject g (rootValue g r)
+graphStep (Ask.RawRead root field) g =
+    onGraphRoots (root ∷ []) g
+    (onObject g (rootValue g root)
     (wrongKind g)
-    (λ i ws. refuse (leb (length ws) f) Why.Field g (says (Says.Number (getD ws f 0)) g)))
-graphStep (Ask.RawWrite r f x) g =
-    onGraphRoots (r ∷ []) g
-    (onObject g (rootValue g r)
+    (λ i ws. refuse (leb (length ws) field) Why.Field g (says (Says.Number (getD ws field 0)) g)))
+graphStep (Ask.RawWrite root field number) g =
+    onGraphRoots (root ∷ []) g
+    (onObject g (rootValue g root)
     (wrongKind g)
-    (λ i ws. refuse (leb (length ws) f) Why.Field g (says Says.Done (withObject g i (untraced (set ws f x))))))
-graphStep (Ask.Same r q) g =
-    onGraphRoots (r ∷ q ∷ []) g
-    (says (cond (sameValue (rootValue g r) (rootValue g q)) Says.Yes Says.No) g)
-graphStep (Ask.Inspect r) g =
-    onGraphRoots (r ∷ []) g
-    (inspected g (rootValue g r))
+    (λ i ws. refuse (leb (length ws) field) Why.Field g (says Says.Done (withObject g i (untraced (set ws field number))))))
+graphStep (Ask.Same one other) g =
+    onGraphRoots (one ∷ other ∷ []) g
+    (says (cond (sameValue (rootValue g one) (rootValue g other)) Says.Yes Says.No) g)
+graphStep (Ask.Inspect root) g =
+    onGraphRoots (root ∷ []) g
+    (inspected g (rootValue g root))
 
 -- the answers to a list of calls, and the graph after them
 unfoldable pub graphAnswers : List Call → Graph → List Answer

@@ -31,16 +31,16 @@ pub data Sight : Type 0 where
 abbrev pub sight : Call → Sight
 sight Ask.Collect = anyWord
 sight Ask.Check = anyWord
-sight (Ask.Allocate k n r) = anyWord
-sight (Ask.SetInteger r v) = noWord
-sight (Ask.SetNull r) = noWord
-sight (Ask.Copy from to) = noWord
-sight (Ask.Load r f to) = objectOf r
-sight (Ask.Store r f from) = objectOf r
-sight (Ask.RawRead r f) = objectOf r
-sight (Ask.RawWrite r f x) = objectOf r
-sight (Ask.Same r q) = noWord
-sight (Ask.Inspect r) = objectOf r
+sight (Ask.Allocate _ _ _) = anyWord
+sight (Ask.SetInteger _ _) = noWord
+sight (Ask.SetNull _) = noWord
+sight (Ask.Copy _ _) = noWord
+sight (Ask.Load object _ _) = objectOf object
+sight (Ask.Store object _ _) = objectOf object
+sight (Ask.RawRead object _) = objectOf object
+sight (Ask.RawWrite object _ _) = objectOf object
+sight (Ask.Same _ _) = noWord
+sight (Ask.Inspect root) = objectOf root
 
 -- the same answer, roots and record
 pub record Alike (o o′ : Outcome State) : Type 0 where
