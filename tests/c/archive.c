@@ -1,8 +1,6 @@
 /* The archive's calls with their arguments in the header's order; then the same through the header's struct. */
 #include "archive.h"
 
-#include "phachunoi.h"
-
 #define LENT(s) (s)->heap, (s)->words, (s)->roots, (s)->root_count, record
 
 static struct said kept(struct state *s, phachunoi_result r) {
@@ -95,16 +93,22 @@ static struct said struct_answer(phachunoi_heap *h, const struct call *c) {
   return said;
 }
 
-struct said archive_call(struct state *s, const struct call *c, int through_struct) {
-  struct said said;
+phachunoi_heap heap_of(const struct state *s) {
   phachunoi_heap h;
-  if (!through_struct || c->op == FRESH) return plain_call(s, c); /* the struct's `begin` clears the roots too */
   h.words = s->heap;
   h.word_count = s->words;
   h.roots = s->roots;
   h.root_count = s->root_count;
   h.record.half = s->half;
   h.record.free = s->free;
+  return h;
+}
+
+struct said archive_call(struct state *s, const struct call *c, int through_struct) {
+  struct said said;
+  phachunoi_heap h;
+  if (!through_struct || c->op == FRESH) return plain_call(s, c); /* the struct's `begin` clears the roots too */
+  h = heap_of(s);
   said = struct_answer(&h, c);
   s->half = h.record.half;
   s->free = h.record.free;

@@ -76,7 +76,7 @@ struct said judge_call(const struct call *c) {
 void expect(int ok, const char *wrong) {
   checks++;
   if (ok) return;
-  if (differences++ < 20) printf("%s: %s\n", part, wrong);
+  if (differences++ < 20) printf("difference in %s: %s\n", part, wrong);
 }
 
 static void show_met(void) {

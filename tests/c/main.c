@@ -23,6 +23,7 @@ int main(int argc, char **argv) {
   sessions((uint32_t)(calls / 20000) + 2);
   random_trials(calls);
   long_sessions(calls / 10);
+  showing((uint32_t)(calls / 500) + 100);
   largest_heaps((uint32_t)(calls / 50000) + 1);
   return judge_verdict(seed);
 }

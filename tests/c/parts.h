@@ -12,6 +12,7 @@ void bit_flips(void);                     /* flips.c: every single bit of P5 */
 void sessions(uint32_t lists);            /* sessions.c: two sizes, the graph, a collection between any two calls */
 void random_trials(uint64_t calls);       /* trials.c: sound and damaged heaps, all calls */
 void long_sessions(uint64_t calls);       /* trials.c: one heap for thousands of calls */
+void showing(uint32_t heaps);             /* showing.c: phachunoi_show.h, exactly, and on heaps of every sort */
 void largest_heaps(uint32_t trials);      /* trials.c: S = 1,048,576 */
 
 #endif

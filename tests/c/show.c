@@ -1,26 +1,67 @@
-/* Printing of states, calls and answers. Long runs are cut: a small case is what one reads. */
+/* Printing of states, calls and answers. Long states are cut: a small case is what one reads. */
 #include "show.h"
 
 #include <inttypes.h>
-#include <stdio.h>
+#include <stdlib.h>
+#include <string.h>
+
+#include "archive.h"
+#include "phachunoi_show.h"
 
 static const char *const op_names[OPS] = {"fresh",       "check",    "collect", "allocate_traced", "allocate_untraced",
                                           "set_integer", "set_null", "copy",    "load",            "store",
                                           "raw_read",    "raw_write", "same",   "inspect",         "open",
                                           "word"};
 
-static void show_run(const char *label, const uint32_t *run, size_t n) {
-  size_t i;
-  printf("    %s", label);
-  for (i = 0; i < n && i < 64; i++) printf(" %" PRIx32, run[i]);
-  printf(i < n ? " ..\n" : "\n");
+/* Of exactly the size lent, so that a build with a checker of addresses sees every step beside it. */
+static uint32_t *copy_of(const uint32_t *run, size_t n) {
+  uint32_t *copy = malloc(n * sizeof run[0] + (n == 0));
+  if (copy == NULL) abort();
+  if (run != NULL) memcpy(copy, run, n * sizeof run[0]);
+  return copy;
 }
 
+/* Shows a copy, and says whether it is as it was. */
+static int leaves_as_it_was(shower *show, FILE *out, const struct state *s, int with_room) {
+  phachunoi_heap h = heap_of(s);
+  uint32_t *room = with_room ? copy_of(NULL, s->words / 2) : NULL;
+  int same;
+  h.words = copy_of(s->heap, s->words);
+  h.roots = copy_of(s->roots, s->root_count);
+  show(out, &h, room);
+  same = memcmp(h.words, s->heap, s->words * sizeof h.words[0]) == 0 &&
+         memcmp(h.roots, s->roots, s->root_count * sizeof h.roots[0]) == 0;
+  free(h.words);
+  free(h.roots);
+  free(room);
+  return same;
+}
+
+const char *shown(shower *show, const struct state *s, int with_room) {
+  static char text[LONGEST_SHOWN + 1];
+  static FILE *file;
+  size_t length;
+  if (file == NULL && (file = tmpfile()) == NULL) return "no temporary file to show a heap in\n";
+  rewind(file);
+  if (!leaves_as_it_was(show, file, s, with_room)) return "a heap was changed while it was shown\n";
+  length = (size_t)ftell(file);
+  rewind(file);
+  length = fread(text, 1, length < LONGEST_SHOWN ? length : LONGEST_SHOWN, file);
+  text[length] = 0;
+  return text;
+}
+
+/* Of a large heap the first lines must do. */
 void show_state(const char *label, const struct state *s) {
-  printf("  %s half %" PRIu32 " free %" PRIu32 ", %zu words, %zu roots\n", label, s->half, s->free, s->words,
-         s->root_count);
-  show_run("words", s->heap, s->words);
-  show_run("roots", s->roots, s->root_count);
+  const char *line = shown(phachunoi_show_text, s, 1);
+  int lines;
+  printf("  %s\n", label);
+  for (lines = 0; lines < 100 && *line != 0; lines++) {
+    size_t length = strcspn(line, "\n");
+    printf("    %.*s\n", (int)length, line);
+    line += length + (line[length] != 0);
+  }
+  if (*line != 0) printf("    ..\n");
 }
 
 void show_call(const struct call *c) {

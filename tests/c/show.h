@@ -1,8 +1,20 @@
-/* Printing of states, calls and answers, for a case that differed. */
+/* Printing of states, calls and answers, for a case that differed; and what phachunoi_show.h writes, as text. */
 #ifndef SHOW_H
 #define SHOW_H
 
+#include <stdio.h>
+
 #include "model.h"
+#include "phachunoi.h"
+
+#define LONGEST_SHOWN 16777216u
+
+/* A function of phachunoi_show.h. */
+typedef void shower(FILE *out, const phachunoi_heap *h, uint32_t *room);
+
+/* What it writes of a copy of a state, up to LONGEST_SHOWN characters, or that it changed the copy; good until the next
+   call. */
+const char *shown(shower *show, const struct state *s, int with_room);
 
 void show_state(const char *label, const struct state *s);
 void show_call(const struct call *c);

@@ -4,6 +4,7 @@
 #include "judge.h"
 #include "parts.h"
 #include "random.h"
+#include "trials.h"
 
 static uint32_t some_size(void) {
   switch (below(5)) {
@@ -24,7 +25,7 @@ static void badly_shaped(void) {
   noise(judged());
 }
 
-static void start(void) {
+void lend_some_heap(void) {
   uint32_t kind = below(16);
   if (kind == 0) {
     badly_shaped();
@@ -40,7 +41,7 @@ static void start(void) {
 static void trial(void) {
   uint32_t i, n = 20 + below(100);
   int disturbed = one_in(2);
-  start();
+  lend_some_heap();
   judge_settle();
   for (i = 0; i < n; i++) {
     struct call c = random_call(judged());
