@@ -86,7 +86,7 @@ compile_each() {
     for word in "$@"; do
         case $word in
         *.c) sources="$sources $word" ;;
-        *.a | -l*) archives="$archives $word" ;;
+        *.a | -l* | -L*) archives="$archives $word" ;;
         *.o) objects="$objects $word" ;;
         *) flags="$flags $word" ;;
         esac

@@ -1,5 +1,5 @@
 #!/bin/sh
-# Proves the boundary crate and puts what a C host needs under dist/: the archive, the header, a pkg-config file.
+# Proves the boundary crate and puts what a C host needs under dist/: the archive, the headers, a pkg-config file.
 set -eu
 cd "$(dirname "$0")/.."
 version=$(sed -n 's/^#define PHACHUNOI_VERSION_\(MAJOR\|MINOR\|PATCH\) //p' include/phachunoi.h | paste -sd.)
@@ -19,7 +19,7 @@ grep '^logic=proved' target/lib.out || {
 }
 mkdir -p dist/lib/pkgconfig dist/include
 cp target/staticlib/libphachunoi.a dist/lib/
-cp include/phachunoi.h dist/include/
+cp include/phachunoi.h include/phachunoi_show.h dist/include/
 # The folder is found from the file's own place, so that dist/ can be moved as a whole.
 cat >dist/lib/pkgconfig/phachunoi.pc <<END
 prefix=\${pcfiledir}/../..
