@@ -17,6 +17,7 @@ static const char *const op_names[OPS] = {"fresh",       "check",    "collect", 
 static uint32_t *copy_of(const uint32_t *run, size_t n) {
   uint32_t *copy = malloc(n * sizeof run[0] + (n == 0));
   if (copy == NULL) abort();
+  memset(copy, 0x5a, n * sizeof run[0]); /* what a host lends as room may hold anything */
   if (run != NULL) memcpy(copy, run, n * sizeof run[0]);
   return copy;
 }

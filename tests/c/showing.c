@@ -60,9 +60,9 @@ static void damaged(void) {
                                   0,                                                                   /* 63 */
                                   2, 0x108,                                                            /* 64: garbage */
                                   18, 14, 8, 0xa8, 0xb8, 0x400, 0xfc, 21, 0x130, 0x7fffffff};          /* 66: garbage */
-  static const uint32_t roots[] = {0xd8, 0xa4, 3, 0, 0, 0, 0, 0xb8};
+  static const uint32_t roots[] = {0xd8, 0xa4, 3, 0, 0, 0, 0, 0xb8, 0xd8, 0xd8, 0xd8, 0xd8};
   struct state *s = judged();
-  judge_lend(81, 8);
+  judge_lend(81, 12);
   memcpy(s->heap + 41, used, sizeof used);
   memcpy(s->roots, roots, sizeof roots);
   s->half = 1;
@@ -226,9 +226,8 @@ static void right_verdict(const char *line) {
   expect(words == used && garbage_words == used - judge_call(&collect).value, "garbage is not what a collection drops");
 }
 
-static void some_heap(void) {
+static void check_shown(void) {
   char last[256] = "";
-  lend_some_heap();
   judge_settle();
   note_objects(judged());
   check_text(0, last, sizeof last);
@@ -236,6 +235,26 @@ static void some_heap(void) {
   check_text(1, last, sizeof last);
   if (bad_shape()) check_graph(1, 0);
   else right_verdict(last);
+}
+
+/* Lengths and records at their limits; all words are 0. */
+static void limits_of_shape(void) {
+  static const size_t lengths[] = {0, 1, 2, 3, 4, 5, 2097151, 2097152, 2097153, 2097154, 2097155};
+  uint32_t i;
+  for (i = 0; i < sizeof lengths / sizeof lengths[0]; i++) {
+    judge_lend(lengths[i], 1);
+    check_shown();
+  }
+  for (i = 65535; i <= 65537; i++) {
+    judge_lend(17, i);
+    check_shown();
+  }
+  for (i = 0; i < 3 * 20; i++) {
+    judge_lend(17, 1);
+    judged()->half = i / 20;
+    judged()->free = i % 20;
+    check_shown();
+  }
 }
 
 /* Were each address looked for among all objects, this would take minutes. */
@@ -252,6 +271,10 @@ void showing(uint32_t heaps) {
   fresh_and_refused();
   damaged();
   broken();
-  while (heaps-- > 0) some_heap();
+  limits_of_shape();
+  for (; heaps > 0; heaps--) {
+    lend_some_heap();
+    check_shown();
+  }
   large_heap();
 }
