@@ -9,7 +9,7 @@ command -v rt >/dev/null 2>&1 || {
     exit 2
 }
 mkdir -p target
-rt staticlib phachunoi >target/lib.out 2>&1 || {
+tools/progress.sh staticlib phachunoi >target/lib.out || {
     cat target/lib.out
     exit 1
 }
