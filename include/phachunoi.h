@@ -5,6 +5,7 @@
  * Part 3  the calls of the archive libphachunoi.a. PROVED: each does what is written here, for all inputs.
  *         What is trusted besides stands in docs/EMBEDDING.md.
  * Part 4  a struct that keeps words, roots and record together. NOT PROVED: plain C over part 3.
+ * A heap as text or as a graph, to look at: phachunoi_show.h.
  *
  * Words. A heap is 2S + 1 words of 32 bits, S from 1 to PHACHUNOI_MAX_HALF. Word 0 is reserved and holds 0; half A is
  * words 1 to S, half B is words S + 1 to 2S. One half is current, the other idle. Roots are 0 to PHACHUNOI_MAX_ROOTS

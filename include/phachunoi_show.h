@@ -96,10 +96,10 @@ static inline void phachunoi_show_meet(phachunoi_shown *s, uint32_t word) {
   s->newest = at;
 }
 
-/* What is left as garbage afterwards is garbage. */
+/* Every object is noted as garbage at first; what roots lead to is taken out, in the order of a collection. */
 static inline void phachunoi_show_reach(phachunoi_shown *s) {
   const uint32_t *words = s->heap->words;
-  uint32_t at = 0, k;
+  uint32_t at, k;
   size_t i;
   for (i = 0; i < s->heap->root_count; i++) phachunoi_show_meet(s, s->heap->roots[i]);
   for (at = s->oldest; at != 0 && at != PHACHUNOI_SHOW_LAST; at = s->room[at - s->first]) {
@@ -144,7 +144,7 @@ static inline void phachunoi_show_shape(const phachunoi_shown *s) {
   else if (h->root_count > PHACHUNOI_MAX_ROOTS) fprintf(s->out, "shape: a heap has at most 65536 roots");
   else if (h->record.half > PHACHUNOI_B) fprintf(s->out, "shape: the half is neither A (0) nor B (1)");
   else
-    fprintf(s->out, "shape: the free index lies outside the half, %lu to %lu", (unsigned long)s->first,
+    fprintf(s->out, "shape: the free index of this half lies from %lu to %lu", (unsigned long)s->first,
             (unsigned long)s->first + s->half);
 }
 

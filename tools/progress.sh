@@ -80,9 +80,10 @@ to_come=$(crates_of "$wanted")
 all=$(echo "$to_come" | wc -l)
 edits=$(find crates -path '*/must-fail/*.edit' | wc -l)
 passed=0 tried=0 trying=''
+# shellcheck disable=SC2086
 case $1 in
-ci) tell "proving $all crates, then trying $edits must-fail edits, then running the programs" ;;
-*) tell "proving $wanted and the $((all - 1)) crates that it stands on" ;;
+ci) tell "$all crates to prove: $(few $to_come); then $edits must-fail edits to try, and the programs to run" ;;
+*) tell "$all crates to prove, or unchanged, for $wanted: $(few $to_come)" ;;
 esac
 exec 4>&1
 status=$({ { run "$@" 3>&- 4>&-; echo $? >&3; } | watch >&4 3>&-; } 3>&1)

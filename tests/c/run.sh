@@ -41,12 +41,27 @@ smallest() {
     echo "check-c: the smallest embedding"
 }
 
+# The README's sample is a whole program but for its headers.
+sample() {
+    {
+        printf '#include <%s.h>\n' stdio stdlib phachunoi
+        sed -n '/^```c$/,/^```$/{/^```/!p;}' README.md
+    } >$made/sample.c
+    build sample $made/sample.c "$archive"
+    [ "$(tools/cc.sh run $made/sample)" = "field 0 is 23" ] || fail "the README's sample"
+    echo "check-c: the README's sample"
+}
+
 # The pictures of docs/ are those of today's code: the program writes them again.
 pictures() {
     build picture examples/picture.c "$archive"
     tools/cc.sh run $made/picture $made || fail "examples/picture.c"
     for file in p5-before.txt p5-before.dot p5-after.txt p5-after.dot; do
         cmp -s "$made/$file" "docs/$file" || fail "docs/$file is not what examples/picture.c writes: make picture"
+    done
+    for file in p5-before.txt p5-after.txt; do
+        text=$(sed 's/^/    /' docs/$file)
+        case $(cat docs/EMBEDDING.md) in *"$text"*) ;; *) fail "docs/EMBEDDING.md does not show docs/$file" ;; esac
     done
     echo "check-c: the pictures"
 }
@@ -67,6 +82,7 @@ installed() {
 
 headers
 smallest
+sample
 pictures
 installed
 build lisp examples/lisp/*.c "$archive"
