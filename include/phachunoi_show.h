@@ -55,6 +55,8 @@ static inline uint32_t phachunoi_show_count(uint32_t header) { return (header & 
 
 static inline int phachunoi_show_untraced(uint32_t header) { return header >> 31 != 0; }
 
+static inline const char *phachunoi_show_s(size_t n) { return n == 1 ? "" : "s"; }
+
 /* Whether an object's shape stands at an index of the used words. */
 static inline int phachunoi_show_fits(const phachunoi_heap *h, uint32_t at) {
   return h->words[at] % 2 == 0 && phachunoi_show_count(h->words[at]) < h->record.free - at;
@@ -134,7 +136,8 @@ static inline void phachunoi_show_record(const phachunoi_shown *s) {
   if (h->record.half <= PHACHUNOI_B) fprintf(s->out, "half %c", h->record.half == PHACHUNOI_A ? 'A' : 'B');
   else fprintf(s->out, "half %lu", (unsigned long)h->record.half);
   fprintf(s->out, ", free index %lu", (unsigned long)h->record.free);
-  fprintf(s->out, "; %zu words, %zu root%s", h->word_count, h->root_count, h->root_count == 1 ? "" : "s");
+  fprintf(s->out, "; %zu word%s", h->word_count, phachunoi_show_s(h->word_count));
+  fprintf(s->out, ", %zu root%s", h->root_count, phachunoi_show_s(h->root_count));
 }
 
 /* Why the shape is bad: the first reason that applies. */
@@ -217,7 +220,7 @@ static inline void phachunoi_show_fields(phachunoi_shown *s, uint32_t at, uint32
 static inline void phachunoi_show_object(phachunoi_shown *s, uint32_t at) {
   uint32_t header = s->heap->words[at], n = phachunoi_show_count(header);
   phachunoi_show_place(s, "word", at, header);
-  fprintf(s->out, "%s, %lu field%s", phachunoi_show_kind(header), (unsigned long)n, n == 1 ? "" : "s");
+  fprintf(s->out, "%s, %lu field%s", phachunoi_show_kind(header), (unsigned long)n, phachunoi_show_s(n));
   if (phachunoi_show_is_garbage(s, at)) {
     fputs(", garbage", s->out);
     s->garbage++;
@@ -265,10 +268,9 @@ static inline void phachunoi_show_current(phachunoi_shown *s) {
 }
 
 static inline void phachunoi_show_verdict(const phachunoi_shown *s) {
-  fprintf(s->out, "%lu object%s in %lu words", (unsigned long)s->objects, s->objects == 1 ? "" : "s",
-          (unsigned long)(s->tiled - s->first));
-  if (s->room != NULL)
-    fprintf(s->out, "; garbage: %lu in %lu words", (unsigned long)s->garbage, (unsigned long)s->garbage_words);
+  unsigned long objects = s->objects, words = s->tiled - s->first, garbage = s->garbage, dead = s->garbage_words;
+  fprintf(s->out, "%lu object%s in %lu word%s", objects, phachunoi_show_s(objects), words, phachunoi_show_s(words));
+  if (s->room != NULL) fprintf(s->out, "; garbage: %lu in %lu word%s", garbage, dead, phachunoi_show_s(dead));
   if (s->troubles != 0) fputs("; not sound: see the lines with !", s->out);
   else if (s->room != NULL) fputs("; sound", s->out);
   fputc('\n', s->out);

@@ -216,14 +216,14 @@ static void right_verdict(const char *line) {
   struct call collect = call_of(COLLECT, 0, 0, 0);
   struct state before = *judged();
   uint32_t used = before.free - (before.half == 0 ? 1 : (uint32_t)(before.words / 2) + 1);
-  unsigned long count, words, garbage = 0, garbage_words;
+  unsigned long count, words, garbage = 0, dead;
   int sound = model_sound(&before), said;
-  said = sscanf(line, "%lu %*[objects] in %lu words; garbage: %lu in %lu", &count, &words, &garbage, &garbage_words);
+  said = sscanf(line, "%lu %*[objects] in %lu %*[words]; garbage: %lu in %lu", &count, &words, &garbage, &dead);
   expect(said == 4 && count == objects, "the number of objects");
   expect(ends_in(line, sound ? "; sound" : "; not sound: see the lines with !"), "the verdict is not the model's");
   check_graph(1, garbage);
   if (!sound) return;
-  expect(words == used && garbage_words == used - judge_call(&collect).value, "garbage is not what a collection drops");
+  expect(words == used && dead == used - judge_call(&collect).value, "garbage is not what a collection drops");
 }
 
 static void check_shown(void) {
