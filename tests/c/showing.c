@@ -216,7 +216,7 @@ static void right_verdict(const char *line) {
   struct call collect = call_of(COLLECT, 0, 0, 0);
   struct state before = *judged();
   uint32_t used = before.free - (before.half == 0 ? 1 : (uint32_t)(before.words / 2) + 1);
-  unsigned long count, words, garbage = 0, dead;
+  unsigned long count = 0, words = 0, garbage = 0, dead = 0;
   int sound = model_sound(&before), said;
   said = sscanf(line, "%lu %*[objects] in %lu %*[words]; garbage: %lu in %lu", &count, &words, &garbage, &dead);
   expect(said == 4 && count == objects, "the number of objects");
