@@ -3,9 +3,10 @@
 #include "heaps.h"
 #include "judge.h"
 #include "parts.h"
+#include "samples.h"
 
-/* The bits of P5 in one row: 17 words, 2 roots, the record's 2 entries. */
-static void flipped_p5(uint32_t bit) {
+/* The bits of P5 in one row. */
+void flipped_p5(uint32_t bit) {
   struct state *s = judged();
   uint32_t word = bit / 32, one = 1u << (bit % 32);
   p5_heap(s);
@@ -23,7 +24,7 @@ void bit_flips(void) {
   uint32_t bit;
   judge_part("every bit of P5");
   judge_lend(17, 2);
-  for (bit = 0; bit < 21 * 32; bit++) {
+  for (bit = 0; bit < P5_BITS; bit++) {
     flipped_p5(bit);
     checked = judge_call(&check);
     collected = judge_call(&collect);

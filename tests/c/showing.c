@@ -8,9 +8,8 @@
 #include "heaps.h"
 #include "judge.h"
 #include "parts.h"
-#include "random.h"
+#include "samples.h"
 #include "show.h"
-#include "trials.h"
 
 /* ---- exactly ---- */
 
@@ -257,6 +256,15 @@ static void limits_of_shape(void) {
   }
 }
 
+static void every_bit_of_p5(void) {
+  uint32_t bit;
+  for (bit = 0; bit < P5_BITS; bit++) {
+    judge_lend(17, 2);
+    flipped_p5(bit);
+    check_shown();
+  }
+}
+
 /* Were each address looked for among all objects, this would take minutes. */
 static void large_heap(void) {
   judge_lend(200001, 30000);
@@ -272,6 +280,7 @@ void showing(uint32_t heaps) {
   damaged();
   broken();
   limits_of_shape();
+  every_bit_of_p5();
   for (; heaps > 0; heaps--) {
     lend_some_heap();
     check_shown();

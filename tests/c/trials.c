@@ -4,7 +4,7 @@
 #include "judge.h"
 #include "parts.h"
 #include "random.h"
-#include "trials.h"
+#include "samples.h"
 
 static uint32_t some_size(void) {
   switch (below(5)) {
