@@ -9,7 +9,7 @@
 
 static uint32_t words[PHACHUNOI_WORDS(HALF)];
 static uint32_t roots[2];
-static uint32_t room[HALF]; /* so that garbage is told */
+static uint32_t notes[HALF]; /* so that garbage is told */
 
 static void must(enum phachunoi_refusal refusal) {
   if (refusal == PHACHUNOI_DONE) return;
@@ -30,14 +30,14 @@ static void build(phachunoi_heap *heap) {
   must(phachunoi_heap_allocate_traced(heap, 0, 0));
 }
 
-typedef void shower(FILE *out, const phachunoi_heap *heap, uint32_t *room);
+typedef void shower(FILE *out, const phachunoi_heap *heap, uint32_t *notes);
 
 static void show_in(const char *folder, const char *name, shower *show, const phachunoi_heap *heap) {
   char path[4096];
   FILE *out;
   snprintf(path, sizeof path, "%s/%s", folder, name);
   out = fopen(path, "w");
-  if (out != NULL) show(out, heap, room);
+  if (out != NULL) show(out, heap, notes);
   if (out != NULL && fclose(out) == 0) return;
   fprintf(stderr, "picture: cannot write %s\n", path);
   exit(1);

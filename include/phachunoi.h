@@ -19,7 +19,7 @@
  *               u   n, the count of fields  0      the n fields are the words after the header
  *
  * The host's duties. The proof is about calls that are lent what they ask for:
- *   - `heap` points to `words` words and `roots` to `root_count` words, aligned, not null (even when empty), not
+ *   - `heap` points to `word_count` words and `roots` to `root_count` words, aligned, not null (even when empty), not
  *     overlapping, and not touched by anything else during the call;
  *   - after each call that returns a record, refused or not, the host keeps that record and passes it to the next call;
  *   - an address, an index or a window is dead after the next call marked "moves objects": keep values in roots.
@@ -136,8 +136,8 @@ typedef char phachunoi_layout_as_in_the_archive
 
 /* ---- Part 3: the calls of the archive (proved) ----------------------------------------------------------------- */
 
-/* Every call but version, fresh and word begins with heap, words, roots, root_count, record, and can answer SHAPE. A
-   call that names no answer says "done"; whether an allocation collected is not told. `to` is a root that is written,
+/* Every call but version, fresh and word begins with heap, word_count, roots, root_count, record, and can answer SHAPE.
+   A call that names no answer says "done"; whether an allocation collected is not told. `to` is a root that is written,
    `from` and `object` are roots that are read; the same root may be named twice. Unless a call is marked as moving
    objects, every object stays where it is. */
 
@@ -147,85 +147,87 @@ PHACHUNOI_API uint32_t phachunoi_version(void);
 /* Clears all heap words; then half A is current and empty. It neither sees nor changes roots: set them to null (0) too.
    The record handed in does not matter; a refused fresh returns it. All objects are gone.
    Refusals: SHAPE, for the heap's length only. */
-PHACHUNOI_API phachunoi_result phachunoi_fresh(uint32_t *heap, size_t words, phachunoi_record record);
+PHACHUNOI_API phachunoi_result phachunoi_fresh(uint32_t *heap, size_t word_count, phachunoi_record record);
 
 /* Is the heap sound? value is 1 if it is, 0 if not. Sound: no SHAPE; word 0 is 0; the idle half and the free words are
    0; objects fill the used words exactly; each root and each field of a traced object is an integer, null or the
    address of one of those objects. It may mark in an idle half that is all 0, but no word differs afterwards.
    Refusals: SHAPE. */
-PHACHUNOI_API phachunoi_result phachunoi_check(uint32_t *heap, size_t words, const uint32_t *roots, size_t root_count,
-                                               phachunoi_record record);
+PHACHUNOI_API phachunoi_result phachunoi_check(uint32_t *heap, size_t word_count, const uint32_t *roots,
+                                               size_t root_count, phachunoi_record record);
 
 /* Copies the reachable objects to the other half, breadth-first from root 0 on, packed; renames every address in roots
    and fields; clears all other words. MOVES OBJECTS.
    Refusals: SHAPE, DAMAGED. */
-PHACHUNOI_API phachunoi_collected phachunoi_collect(uint32_t *heap, size_t words, uint32_t *roots, size_t root_count,
-                                                    phachunoi_record record);
+PHACHUNOI_API phachunoi_collected phachunoi_collect(uint32_t *heap, size_t word_count, uint32_t *roots,
+                                                    size_t root_count, phachunoi_record record);
 
 /* A new object of `fields` fields, all 0 (null), traced or untraced; root `to` gets its address. It needs fields + 1
    words. If they are not free it collects first, and all roots count as live then, the old value of `to` too.
    MAY MOVE OBJECTS.
    Refusals: SHAPE, ROOT, COUNT, DAMAGED, ROOM. */
-PHACHUNOI_API phachunoi_result phachunoi_allocate_traced(uint32_t *heap, size_t words, uint32_t *roots,
+PHACHUNOI_API phachunoi_result phachunoi_allocate_traced(uint32_t *heap, size_t word_count, uint32_t *roots,
                                                          size_t root_count, phachunoi_record record, size_t fields,
                                                          size_t to);
-PHACHUNOI_API phachunoi_result phachunoi_allocate_untraced(uint32_t *heap, size_t words, uint32_t *roots,
+PHACHUNOI_API phachunoi_result phachunoi_allocate_untraced(uint32_t *heap, size_t word_count, uint32_t *roots,
                                                            size_t root_count, phachunoi_record record, size_t fields,
                                                            size_t to);
 
 /* Root `to` becomes the integer `value`. Looks at no heap word. Refusals: SHAPE, ROOT, RANGE. */
-PHACHUNOI_API phachunoi_result phachunoi_set_integer(const uint32_t *heap, size_t words, uint32_t *roots,
+PHACHUNOI_API phachunoi_result phachunoi_set_integer(const uint32_t *heap, size_t word_count, uint32_t *roots,
                                                      size_t root_count, phachunoi_record record, size_t to,
                                                      int64_t value);
 
 /* Root `to` becomes null. Looks at no heap word. Refusals: SHAPE, ROOT. */
-PHACHUNOI_API phachunoi_result phachunoi_set_null(const uint32_t *heap, size_t words, uint32_t *roots,
+PHACHUNOI_API phachunoi_result phachunoi_set_null(const uint32_t *heap, size_t word_count, uint32_t *roots,
                                                   size_t root_count, phachunoi_record record, size_t to);
 
 /* Root `to` gets the word of root `from`, whatever it is. Looks at no heap word. Refusals: SHAPE, ROOT. */
-PHACHUNOI_API phachunoi_result phachunoi_copy(const uint32_t *heap, size_t words, uint32_t *roots, size_t root_count,
-                                              phachunoi_record record, size_t from, size_t to);
+PHACHUNOI_API phachunoi_result phachunoi_copy(const uint32_t *heap, size_t word_count, uint32_t *roots,
+                                              size_t root_count, phachunoi_record record, size_t from, size_t to);
 
 /* Root `to` gets a field of the traced object that root `object` names. Fields count from 0.
    Refusals: SHAPE, ROOT, OBJECT, KIND, FIELD. */
-PHACHUNOI_API phachunoi_result phachunoi_load(const uint32_t *heap, size_t words, uint32_t *roots, size_t root_count,
-                                              phachunoi_record record, size_t object, size_t field, size_t to);
+PHACHUNOI_API phachunoi_result phachunoi_load(const uint32_t *heap, size_t word_count, uint32_t *roots,
+                                              size_t root_count, phachunoi_record record, size_t object, size_t field,
+                                              size_t to);
 
 /* A field of the traced object that root `object` names gets the word of root `from`.
    Refusals: SHAPE, ROOT, OBJECT, KIND, FIELD. */
-PHACHUNOI_API phachunoi_result phachunoi_store(uint32_t *heap, size_t words, const uint32_t *roots, size_t root_count,
-                                               phachunoi_record record, size_t object, size_t field, size_t from);
+PHACHUNOI_API phachunoi_result phachunoi_store(uint32_t *heap, size_t word_count, const uint32_t *roots,
+                                               size_t root_count, phachunoi_record record, size_t object, size_t field,
+                                               size_t from);
 
 /* value is a field of the untraced object that root `object` names. Changes nothing.
    Refusals: SHAPE, ROOT, OBJECT, KIND, FIELD. */
-PHACHUNOI_API phachunoi_answer phachunoi_raw_read(const uint32_t *heap, size_t words, const uint32_t *roots,
+PHACHUNOI_API phachunoi_answer phachunoi_raw_read(const uint32_t *heap, size_t word_count, const uint32_t *roots,
                                                   size_t root_count, phachunoi_record record, size_t object,
                                                   size_t field);
 
 /* A field of the untraced object that root `object` names becomes `number`, any 32 bits.
    Refusals: SHAPE, ROOT, OBJECT, KIND, FIELD. */
-PHACHUNOI_API phachunoi_result phachunoi_raw_write(uint32_t *heap, size_t words, const uint32_t *roots,
+PHACHUNOI_API phachunoi_result phachunoi_raw_write(uint32_t *heap, size_t word_count, const uint32_t *roots,
                                                    size_t root_count, phachunoi_record record, size_t object,
                                                    size_t field, uint32_t number);
 
 /* value is 1 if the two roots hold equal words (the same integer, null, or the same object), else 0. Changes nothing
    and looks at no heap word. Refusals: SHAPE, ROOT. */
-PHACHUNOI_API phachunoi_answer phachunoi_same(const uint32_t *heap, size_t words, const uint32_t *roots,
+PHACHUNOI_API phachunoi_answer phachunoi_same(const uint32_t *heap, size_t word_count, const uint32_t *roots,
                                               size_t root_count, phachunoi_record record, size_t one, size_t other);
 
 /* What a root holds. Changes nothing. Refusals: SHAPE, ROOT, OBJECT (an even word, not 0, that names no object). */
-PHACHUNOI_API phachunoi_seen phachunoi_inspect(const uint32_t *heap, size_t words, const uint32_t *roots,
+PHACHUNOI_API phachunoi_seen phachunoi_inspect(const uint32_t *heap, size_t word_count, const uint32_t *roots,
                                                size_t root_count, phachunoi_record record, size_t root);
 
 /* A window on the object, of either kind, that root `object` names. Changes nothing. The window is two numbers and
    holds nothing: it is dead after the next call that moves objects. Refusals: SHAPE, ROOT, OBJECT. */
-PHACHUNOI_API phachunoi_window phachunoi_open(const uint32_t *heap, size_t words, const uint32_t *roots,
+PHACHUNOI_API phachunoi_window phachunoi_open(const uint32_t *heap, size_t word_count, const uint32_t *roots,
                                               size_t root_count, phachunoi_record record, size_t object);
 
 /* value is the word at a field number of a window: heap[first + field], where field is below count and the word lies in
    the heap. It goes by those two numbers, which are 0 in a refused window, and by nothing else. Changes nothing.
    Refusals: FIELD. */
-PHACHUNOI_API phachunoi_answer phachunoi_word(const uint32_t *heap, size_t words, phachunoi_window window,
+PHACHUNOI_API phachunoi_answer phachunoi_word(const uint32_t *heap, size_t word_count, phachunoi_window window,
                                               size_t field);
 
 /* ---- Part 4: a heap in one struct (NOT PROVED) ----------------------------------------------------------------- */

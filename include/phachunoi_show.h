@@ -1,17 +1,17 @@
 /* Phachunoi, a heap shown: as text, and as a graph for Graphviz. NOT PROVED: plain C over part 4 of phachunoi.h.
  *
- *     phachunoi_show_text(stderr, &heap, room);   a line a word, with what it means
- *     phachunoi_show_graph(file, &heap, room);    for `dot -Tsvg`: the roots, the objects, and an edge from each root
- *                                                 or field to the object that it names
+ *     phachunoi_show_text(stderr, &heap, notes);   a line a word, with what it means
+ *     phachunoi_show_graph(file, &heap, notes);    for `dot -Tsvg`: the roots, the objects, and an edge from each root
+ *                                                  or field to the object that it names
  *
  * Both take any words, roots and record, sound or not. They change none of them, read only what is lent, call nothing
  * of the archive, and end in time that goes by the heap's length. What is wrong with a heap is marked "!". The same
  * heap is always shown alike; a later version may show it otherwise.
  *
- * `room` points to words that the host lends for the call, as many as a half has and none of the heap's, or is NULL.
- * With it, what no root reaches is called garbage; an address counts if it is that of one of the objects that fill the
+ * `notes` points to words that the host lends for the call, as many as a half has and none of the heap's, or is NULL.
+ * With them, what no root reaches is called garbage; an address counts if it is that of one of the objects that fill the
  * used words; and the text's last line says whether the heap is sound. That takes a note for each word, or time that
- * goes by the square. Without it, an address counts as it does for the calls, wherever a header's shape stands: it may
+ * goes by the square. Without them, an address counts as it does for the calls, wherever a header's shape stands: it may
  * point into the middle of an object, and in the graph the edge then ends in a node without fields.
  *
  * Part 1  what is shown: shape, objects, what is reached, values.
@@ -34,15 +34,15 @@ extern "C" {
 
 #define PHACHUNOI_SHOW_FOLD 4u /* as many equal words in a row, or more, are shown as one */
 
-/* What `room` holds for a word of the current half: 0 if no object starts there; else one of these, or the index of the
-   object that was reached next. The objects reached are so a queue, and no object needs a place beside its own. */
+/* The note on a word of the current half: 0 if no object starts there; else one of these, or the index of the object
+   that was reached next. The objects reached are so a queue, and no object needs a place beside its own. */
 #define PHACHUNOI_SHOW_UNREACHED 0xffffffffu
 #define PHACHUNOI_SHOW_LAST 0xfffffffeu
 
 typedef struct phachunoi_shown {
   FILE *out;
   const phachunoi_heap *heap;
-  uint32_t *room;
+  uint32_t *notes;
   uint32_t half;           /* words in a half, S */
   uint32_t first;          /* the current half's first word */
   uint32_t tiled;          /* one past the last word of the objects, which stand end to end from `first` on */
@@ -66,11 +66,11 @@ static inline int phachunoi_show_fits(const phachunoi_heap *h, uint32_t at) {
 static inline int phachunoi_show_names(const phachunoi_shown *s, uint32_t word) {
   uint32_t at = word / 4;
   if (word % 4 != 0 || at < s->first || at >= s->heap->record.free) return 0;
-  return s->room != NULL ? s->room[at - s->first] != 0 : phachunoi_show_fits(s->heap, at);
+  return s->notes != NULL ? s->notes[at - s->first] != 0 : phachunoi_show_fits(s->heap, at);
 }
 
 static inline int phachunoi_show_is_garbage(const phachunoi_shown *s, uint32_t at) {
-  return s->room != NULL && s->room[at - s->first] == PHACHUNOI_SHOW_UNREACHED;
+  return s->notes != NULL && s->notes[at - s->first] == PHACHUNOI_SHOW_UNREACHED;
 }
 
 static inline int phachunoi_show_bad_length(const phachunoi_heap *h) {
@@ -80,9 +80,9 @@ static inline int phachunoi_show_bad_length(const phachunoi_heap *h) {
 /* The objects from the half's first word on, up to the free index or to a word that starts none. */
 static inline void phachunoi_show_tile(phachunoi_shown *s) {
   uint32_t i;
-  for (i = 0; i < s->half && s->room != NULL; i++) s->room[i] = 0;
+  for (i = 0; i < s->half && s->notes != NULL; i++) s->notes[i] = 0;
   for (i = s->first; i < s->heap->record.free && phachunoi_show_fits(s->heap, i);) {
-    if (s->room != NULL) s->room[i - s->first] = PHACHUNOI_SHOW_UNREACHED;
+    if (s->notes != NULL) s->notes[i - s->first] = PHACHUNOI_SHOW_UNREACHED;
     s->objects++;
     i += phachunoi_show_count(s->heap->words[i]) + 1;
   }
@@ -92,8 +92,8 @@ static inline void phachunoi_show_tile(phachunoi_shown *s) {
 static inline void phachunoi_show_meet(phachunoi_shown *s, uint32_t word) {
   uint32_t at = word / 4;
   if (!phachunoi_show_names(s, word) || !phachunoi_show_is_garbage(s, at)) return;
-  s->room[at - s->first] = PHACHUNOI_SHOW_LAST;
-  if (s->newest != 0) s->room[s->newest - s->first] = at;
+  s->notes[at - s->first] = PHACHUNOI_SHOW_LAST;
+  if (s->newest != 0) s->notes[s->newest - s->first] = at;
   else s->oldest = at;
   s->newest = at;
 }
@@ -104,20 +104,20 @@ static inline void phachunoi_show_reach(phachunoi_shown *s) {
   uint32_t at, k;
   size_t i;
   for (i = 0; i < s->heap->root_count; i++) phachunoi_show_meet(s, s->heap->roots[i]);
-  for (at = s->oldest; at != 0 && at != PHACHUNOI_SHOW_LAST; at = s->room[at - s->first]) {
+  for (at = s->oldest; at != 0 && at != PHACHUNOI_SHOW_LAST; at = s->notes[at - s->first]) {
     if (phachunoi_show_untraced(words[at])) continue;
     for (k = 1; k <= phachunoi_show_count(words[at]); k++) phachunoi_show_meet(s, words[at + k]);
   }
 }
 
 /* 0 if the shape is bad. No word is looked at here: a length may be bad because nobody wrote it. */
-static inline int phachunoi_show_begin(phachunoi_shown *s, FILE *out, const phachunoi_heap *h, uint32_t *room) {
+static inline int phachunoi_show_begin(phachunoi_shown *s, FILE *out, const phachunoi_heap *h, uint32_t *notes) {
   phachunoi_shown none = {NULL, NULL, NULL, 0, 0, 0, 0, 0, 0, 0, 0, 0, 1};
   size_t largest = h->word_count > h->root_count ? h->word_count : h->root_count;
   *s = none;
   s->out = out;
   s->heap = h;
-  s->room = room;
+  s->notes = notes;
   for (; largest > 10; largest = largest / 10 + (largest % 10 != 0)) s->digits++;
   if (phachunoi_show_bad_length(h) || h->root_count > PHACHUNOI_MAX_ROOTS || h->record.half > PHACHUNOI_B) return 0;
   s->half = (uint32_t)(h->word_count / 2);
@@ -127,7 +127,7 @@ static inline int phachunoi_show_begin(phachunoi_shown *s, FILE *out, const phac
 
 static inline void phachunoi_show_find(phachunoi_shown *s) {
   phachunoi_show_tile(s);
-  if (s->room != NULL) phachunoi_show_reach(s);
+  if (s->notes != NULL) phachunoi_show_reach(s);
 }
 
 /* "half A, free index 7; 17 words, 2 roots" */
@@ -270,9 +270,9 @@ static inline void phachunoi_show_current(phachunoi_shown *s) {
 static inline void phachunoi_show_verdict(const phachunoi_shown *s) {
   unsigned long objects = s->objects, words = s->tiled - s->first, garbage = s->garbage, dead = s->garbage_words;
   fprintf(s->out, "%lu object%s in %lu word%s", objects, phachunoi_show_s(objects), words, phachunoi_show_s(words));
-  if (s->room != NULL) fprintf(s->out, "; garbage: %lu in %lu word%s", garbage, dead, phachunoi_show_s(dead));
+  if (s->notes != NULL) fprintf(s->out, "; garbage: %lu in %lu word%s", garbage, dead, phachunoi_show_s(dead));
   if (s->troubles != 0) fputs("; not sound: see the lines with !", s->out);
-  else if (s->room != NULL) fputs("; sound", s->out);
+  else if (s->notes != NULL) fputs("; sound", s->out);
   fputc('\n', s->out);
 }
 
@@ -298,9 +298,9 @@ static inline void phachunoi_show_refused(const phachunoi_shown *s) {
 }
 
 /* FOR HOSTS: a heap as text. The record, the roots, the words; then how many objects there are. */
-static inline void phachunoi_show_text(FILE *out, const phachunoi_heap *h, uint32_t *room) {
+static inline void phachunoi_show_text(FILE *out, const phachunoi_heap *h, uint32_t *notes) {
   phachunoi_shown s;
-  int good = phachunoi_show_begin(&s, out, h, room);
+  int good = phachunoi_show_begin(&s, out, h, notes);
   phachunoi_show_record(&s);
   fputc('\n', out);
   if (!good) {
@@ -380,9 +380,9 @@ static inline void phachunoi_show_all_edges(const phachunoi_shown *s) {
 
 /* FOR HOSTS: a heap as a graph in Graphviz's language. Two edges that meet are an object that is shared; garbage is
    dashed. Words that are in no object are not drawn: the text has them. */
-static inline void phachunoi_show_graph(FILE *out, const phachunoi_heap *h, uint32_t *room) {
+static inline void phachunoi_show_graph(FILE *out, const phachunoi_heap *h, uint32_t *notes) {
   phachunoi_shown s;
-  int good = phachunoi_show_begin(&s, out, h, room);
+  int good = phachunoi_show_begin(&s, out, h, notes);
   fputs("digraph phachunoi {\n", out);
   fputs("  graph [rankdir=LR, nodesep=0.2, ranksep=0.6, fontname=Helvetica, fontsize=11];\n", out);
   fputs("  node [shape=record, fontname=Helvetica, fontsize=11, height=0.3];\n", out);

@@ -17,34 +17,34 @@ static const char *const op_names[OPS] = {"fresh",       "check",    "collect", 
 static uint32_t *copy_of(const uint32_t *run, size_t n) {
   uint32_t *copy = malloc(n * sizeof run[0] + (n == 0));
   if (copy == NULL) abort();
-  memset(copy, 0x5a, n * sizeof run[0]); /* what a host lends as room may hold anything */
+  memset(copy, 0x5a, n * sizeof run[0]); /* what a host lends for notes may hold anything */
   if (run != NULL) memcpy(copy, run, n * sizeof run[0]);
   return copy;
 }
 
 /* Shows a copy, and says whether it is as it was. */
-static int leaves_as_it_was(shower *show, FILE *out, const struct state *s, int with_room) {
+static int leaves_as_it_was(shower *show, FILE *out, const struct state *s, int with_notes) {
   phachunoi_heap h = heap_of(s);
-  uint32_t *room = with_room ? copy_of(NULL, s->words / 2) : NULL;
+  uint32_t *notes = with_notes ? copy_of(NULL, s->words / 2) : NULL;
   int same;
   h.words = copy_of(s->heap, s->words);
   h.roots = copy_of(s->roots, s->root_count);
-  show(out, &h, room);
+  show(out, &h, notes);
   same = memcmp(h.words, s->heap, s->words * sizeof h.words[0]) == 0 &&
          memcmp(h.roots, s->roots, s->root_count * sizeof h.roots[0]) == 0;
   free(h.words);
   free(h.roots);
-  free(room);
+  free(notes);
   return same;
 }
 
-const char *shown(shower *show, const struct state *s, int with_room) {
+const char *shown(shower *show, const struct state *s, int with_notes) {
   static char text[LONGEST_SHOWN + 1];
   static FILE *file;
   size_t length;
   if (file == NULL && (file = tmpfile()) == NULL) return "no temporary file to show a heap in\n";
   rewind(file);
-  if (!leaves_as_it_was(show, file, s, with_room)) return "a heap was changed while it was shown\n";
+  if (!leaves_as_it_was(show, file, s, with_notes)) return "a heap was changed while it was shown\n";
   length = (size_t)ftell(file);
   rewind(file);
   length = fread(text, 1, length < LONGEST_SHOWN ? length : LONGEST_SHOWN, file);

@@ -10,11 +10,11 @@
 #define LONGEST_SHOWN 16777216u
 
 /* A function of phachunoi_show.h. */
-typedef void shower(FILE *out, const phachunoi_heap *h, uint32_t *room);
+typedef void shower(FILE *out, const phachunoi_heap *h, uint32_t *notes);
 
 /* What it writes of a copy of a state, up to LONGEST_SHOWN characters, or that it changed the copy; good until the next
    call. */
-const char *shown(shower *show, const struct state *s, int with_room);
+const char *shown(shower *show, const struct state *s, int with_notes);
 
 void show_state(const char *label, const struct state *s);
 void show_call(const struct call *c);

@@ -13,14 +13,14 @@
 
 /* ---- exactly ---- */
 
-static void is_stored(shower *show, int with_room, const char *path) {
+static void is_stored(shower *show, int with_notes, const char *path) {
   static char stored[8192], wrong[256];
   FILE *file = fopen(path, "r");
   size_t length = file != NULL ? fread(stored, 1, sizeof stored - 1, file) : 0;
   if (file != NULL) fclose(file);
   stored[length] = 0;
   snprintf(wrong, sizeof wrong, "a heap is not shown as in %s", path);
-  expect(strcmp(shown(show, judged(), with_room), stored) == 0, wrong);
+  expect(strcmp(shown(show, judged(), with_notes), stored) == 0, wrong);
 }
 
 static void p5_before_and_after(void) {
@@ -71,7 +71,7 @@ static void damaged(void) {
   s->heap[78] = 6;
   is_stored(phachunoi_show_text, 1, "tests/c/show/damaged.txt");
   is_stored(phachunoi_show_graph, 1, "tests/c/show/damaged.dot");
-  is_stored(phachunoi_show_text, 0, "tests/c/show/damaged-no-room.txt");
+  is_stored(phachunoi_show_text, 0, "tests/c/show/damaged-no-notes.txt");
 }
 
 /* Objects that do not fill the used words: a header that runs past the free index, and an odd one. */
@@ -128,18 +128,18 @@ static int next_line(const char **text, char *line, size_t size) {
 }
 
 /* What a line says that a word means must be so. */
-static void means(const char *meaning, uint32_t word, int with_room) {
+static void means(const char *meaning, uint32_t word, int with_notes) {
   long v;
   unsigned long at;
   if (strstr(meaning, "null") != NULL) expect(word == 0, "null is shown that is not null");
   if (strstr(meaning, "integer ") != NULL && sscanf(strstr(meaning, "integer "), "integer %ld", &v) == 1)
     expect((uint32_t)(2 * v + 1) == word, "another integer is shown");
   if (strstr(meaning, "object at ") == NULL || sscanf(strstr(meaning, "object at "), "object at %lu", &at) != 1) return;
-  expect(4 * at == word && at < sizeof starts && (!with_room || starts[at]), "an object is shown that is none");
+  expect(4 * at == word && at < sizeof starts && (!with_notes || starts[at]), "an object is shown that is none");
 }
 
 /* A line "word 9  00000000  meaning, to word 16": it must go on where the last one ended. */
-static int word_line(const struct state *s, const char *line, size_t next[2], int with_room) {
+static int word_line(const struct state *s, const char *line, size_t next[2], int with_notes) {
   char what[8] = "";
   unsigned long from, to, word, i;
   int end = 0, same = 1, roots;
@@ -153,21 +153,21 @@ static int word_line(const struct state *s, const char *line, size_t next[2], in
   for (i = from; i <= to && i < (roots ? s->root_count : s->words); i++)
     same &= (roots ? s->roots : s->heap)[i] == word;
   expect(same, "another word is shown");
-  means(line + end, (uint32_t)word, with_room);
+  means(line + end, (uint32_t)word, with_notes);
   next[roots] = to + 1;
   return 1;
 }
 
 /* The text, line by line; its last line that is not a word's is kept. */
-static void check_text(int with_room, char *last, size_t size) {
+static void check_text(int with_notes, char *last, size_t size) {
   const struct state *s = judged();
-  const char *text = shown(phachunoi_show_text, s, with_room);
+  const char *text = shown(phachunoi_show_text, s, with_notes);
   int has_words = s->words % 2 == 1 && s->words >= 3 && s->words <= 2097153 && s->root_count <= 65536;
   size_t next[2] = {0, 0}, others = 0;
   char line[256];
   expect(next_line(&text, line, sizeof line) && strncmp(line, "half ", 5) == 0, "a text begins otherwise");
   for (; next_line(&text, line, sizeof line); others++) {
-    if (word_line(s, line, next, with_room)) others--;
+    if (word_line(s, line, next, with_notes)) others--;
     else snprintf(last, size, "%s", line);
   }
   expect(others == 1, "a line that is no word's, too many or too few");
@@ -186,9 +186,9 @@ static int even_quotes(const char *line) {
   return quotes % 2 == 0;
 }
 
-/* The graph, line by line. Without room an edge may lead into an object's middle, and garbage is not told. */
-static void check_graph(int with_room, unsigned long garbage) {
-  const char *text = shown(phachunoi_show_graph, judged(), with_room), *arrow;
+/* The graph, line by line. Without notes an edge may lead into an object's middle, and garbage is not told. */
+static void check_graph(int with_notes, unsigned long garbage) {
+  const char *text = shown(phachunoi_show_graph, judged(), with_notes), *arrow;
   uint32_t nodes = 0, arrows = 0, dashed = 0;
   static char line[65536]; /* an object is a line */
   expect(strncmp(text, "digraph phachunoi {\n", 20) == 0, "a graph begins otherwise");
@@ -203,11 +203,11 @@ static void check_graph(int with_room, unsigned long garbage) {
     }
     arrow = strstr(line, " -> w");
     if (arrow == NULL || sscanf(arrow, " -> w%lu:h", &at) != 1) continue;
-    expect(!with_room || (at < sizeof starts && starts[at]), "an edge leads to no object");
+    expect(!with_notes || (at < sizeof starts && starts[at]), "an edge leads to no object");
     arrows++;
   }
   expect(strcmp(line, "}") == 0, "a graph ends otherwise");
-  expect(nodes == objects && (!with_room || (arrows == edges && dashed == garbage)), "nodes, edges or dashed nodes");
+  expect(nodes == objects && (!with_notes || (arrows == edges && dashed == garbage)), "nodes, edges or dashed nodes");
 }
 
 /* The garbage of a sound heap is what a collection does not keep. */
