@@ -14,8 +14,8 @@ use Rattle.runs.proofs.clear.Reads as clear-reads
 use Rattle.words.proofs.shape.bad_length.Reads as bad-length-reads
 
 -- what the call was lent
-abbrev start : tie.Start → State
-start c = stateOf (c .args .heap .now) (c .args .roots .now) (c .args .«record»)
+abbrev lent : tie.Start → State
+lent c = stateOf (c .args .heap .now) (c .args .roots .now) (c .args .«record»)
 
 bad-length-requires : tie.Need-bad-length-requires
 bad-length-requires c κs = search needs
@@ -42,8 +42,9 @@ returns-2 : tie.Need-returns-2
 returns-2 c =
     let cleared = c .before .before .before in
     let sized = cleared .before .before in
+    let start = sized .before .before .before .before in
     said _ _ (c .say2 .ensures)
-    (fresh-done (start (sized .before .before .before .before)) _
+    (fresh-done (lent start) _
     (sym (sized .before .bad-length .ensures) ∙ sized .if1 .left)
     (cleared .clear .ensures))
 

@@ -19,15 +19,26 @@ use Rattle.integers.proofs.tag.Reads as tag-reads
 use Rattle.words.proofs.shape.bad_shape.Reads as bad-shape-reads
 
 -- what the call was lent
-abbrev start : tie.Start → State
-start c = stateOf (c .args .heap .now) (c .args .roots .now) (c .args .«record»)
+abbrev lent : tie.Start → State
+lent c = stateOf (c .args .heap .now) (c .args .roots .now) (c .args .«record»)
 
-shape : (c : tie.Else1) → badShape (start (c .before .before .before .before)) ≡ false
+-- where the call begins
+abbrev start : tie.Else1 → tie.Start
+start c = c .before .before .before .before
+
+shape : (c : tie.Else1) → badShape (lent (start c)) ≡ false
 shape c = sym (c .before .bad-shape .ensures) ∙ c .if1 .left
 
+-- past the tests of SHAPE and ROOT
+abbrev shaped : tie.Else2 → tie.Else1
+shaped c = c .before
+
+abbrev rooted : tie.After-tag → tie.Else2
+rooted c = c .before
+
 -- what `tag` answers, of the value as it was handed in
-word : (c : tie.After-tag) → c .tag .result ≡ tagged (c .before .before .before .before .before .before .args .value)
-word c = c .tag .ensures ∙ ap tagged (toZ-ofZ _ _ (c .before .before .before .before .before .before .fits .value))
+word : (c : tie.After-tag) → c .tag .result ≡ tagged (start (shaped (rooted c)) .args .value)
+word c = c .tag .ensures ∙ ap tagged (toZ-ofZ _ _ (start (shaped (rooted c)) .fits .value))
 
 bad-shape-requires : tie.Need-bad-shape-requires
 bad-shape-requires c κs = search needs
@@ -79,22 +90,22 @@ returns-3 : tie.Need-returns-3
 unfolding setInteger
 returns-3 c =
     let named = c .before .before in
-    let rooted = named .before .before .before in
-    let t = tagged-word _ _ (sym (word (named .before .before)) ∙ named .tagged .given .1) in
+    let answered = named .before .before in
+    let t = tagged-word _ _ (sym (word answered) ∙ named .tagged .given .1) in
     said _ _ (c .say3 .ensures)
-    (passes _ _ (shape (rooted .before))
-    (passes _ _ (lt-leb _ _ (rooted .if2 .left))
+    (passes _ _ (shape (shaped (rooted answered)))
+    (passes _ _ (lt-leb _ _ (rooted answered .if2 .left))
     (passes _ _ (ap not (t .0)) (rw (t .1)))))
 
 returns-4 : tie.Need-returns-4
 unfolding setInteger
 returns-4 c =
     let named = c .before in
-    let rooted = named .before .before .before in
+    let answered = named .before .before in
     said _ _ (c .say4 .ensures)
-    (passes _ _ (shape (rooted .before))
-    (passes _ _ (lt-leb _ _ (rooted .if2 .left))
-    (applies _ (ap not (tagged-none _ (sym (word (named .before .before)) ∙ named .enum-told .given .1))))))
+    (passes _ _ (shape (shaped (rooted answered)))
+    (passes _ _ (lt-leb _ _ (rooted answered .if2 .left))
+    (applies _ (ap not (tagged-none _ (sym (word answered) ∙ named .enum-told .given .1))))))
 
 pub set-integer-spec : {M : Type 1} → statement M
 set-integer-spec =

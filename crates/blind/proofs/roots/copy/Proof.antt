@@ -20,19 +20,27 @@ use Rattle.words.proofs.shape.no_root.Reads as no-root-reads
 use Rattle.words.proofs.shape.bad_shape.Reads as bad-shape-reads
 
 -- what the call was lent
-abbrev start : tie.Start → State
-start c = stateOf (c .args .heap .now) (c .args .roots .now) (c .args .«record»)
+abbrev lent : tie.Start → State
+lent c = stateOf (c .args .heap .now) (c .args .roots .now) (c .args .«record»)
 
-shape : (c : tie.Else1) → badShape (start (c .before .before .before .before)) ≡ false
+-- where the call begins
+abbrev start : tie.Else1 → tie.Start
+start c = c .before .before .before .before
+
+shape : (c : tie.Else1) → badShape (lent (start c)) ≡ false
 shape c = sym (c .before .bad-shape .ensures) ∙ c .if1 .left
 
-rooted : (c : tie.Else2) → let s = c .before .before .before .before .before .before in
-    (noRoot (start s) (s .args .from) || noRoot (start s) (s .args .to)) ≡ false
-rooted c = sym (c .before .no-root .ensures) ∙ c .if2 .left
+-- past the test of SHAPE
+abbrev shaped : tie.Else2 → tie.Else1
+shaped c = c .before .before
 
-below : (c : tie.Else2) → let s = c .before .before .before .before .before .before in
+root : (c : tie.Else2) → let s = start (shaped c) in
+    (noRoot (lent s) (s .args .from) || noRoot (lent s) (s .args .to)) ≡ false
+root c = sym (c .before .no-root .ensures) ∙ c .if2 .left
+
+below : (c : tie.Else2) → let s = start (shaped c) in
     (s .args .from < length (s .args .roots .now)) × (s .args .to < length (s .args .roots .now))
-below c = both-below _ _ _ (rooted c)
+below c = both-below _ _ _ (root c)
 
 bad-shape-requires : tie.Need-bad-shape-requires
 bad-shape-requires c κs = search needs
@@ -80,10 +88,10 @@ same-length c = search needs
 returns-3 : tie.Need-returns-3
 unfolding copy
 returns-3 c =
-    let found = c .before .before in
+    let rooted = c .before .before in
     said _ _ (c .say3 .ensures)
-    (passes _ _ (shape (found .before .before))
-    (passes _ _ (rooted found) refl))
+    (passes _ _ (shape (shaped rooted))
+    (passes _ _ (root rooted) refl))
 
 pub copy-spec : {M : Type 1} → statement M
 copy-spec =

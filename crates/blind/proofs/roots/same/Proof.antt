@@ -23,23 +23,34 @@ use Rattle.words.proofs.shape.no_root.Reads as no-root-reads
 use Rattle.words.proofs.shape.bad_shape.Reads as bad-shape-reads
 
 -- what the call was lent
-abbrev start : tie.Start → State
-start c = stateOf (c .args .heap .now) (c .args .roots .now) (c .args .«record»)
+abbrev lent : tie.Start → State
+lent c = stateOf (c .args .heap .now) (c .args .roots .now) (c .args .«record»)
 
-shape : (c : tie.Else1) → badShape (start (c .before .before .before .before)) ≡ false
+-- where the call begins
+abbrev start : tie.Else1 → tie.Start
+start c = c .before .before .before .before
+
+shape : (c : tie.Else1) → badShape (lent (start c)) ≡ false
 shape c = sym (c .before .bad-shape .ensures) ∙ c .if1 .left
 
-rooted : (c : tie.Else2) → let s = c .before .before .before .before .before .before in
-    (noRoot (start s) (s .args .one) || noRoot (start s) (s .args .other)) ≡ false
-rooted c = sym (c .before .no-root .ensures) ∙ c .if2 .left
+-- past the tests of SHAPE and ROOT
+abbrev shaped : tie.Else2 → tie.Else1
+shaped c = c .before .before
+
+abbrev rooted : tie.After-shared-slice-known4 → tie.Else2
+rooted c = c .before .before
+
+root : (c : tie.Else2) → let s = start (shaped c) in
+    (noRoot (lent s) (s .args .one) || noRoot (lent s) (s .args .other)) ≡ false
+root c = sym (c .before .no-root .ensures) ∙ c .if2 .left
 
 -- what is said of two words, by whether they are equal
 abbrev answer : State → Bool → Outcome State
 answer s b = says (cond b Says.Yes Says.No) s
 
-below : (c : tie.Else2) → let s = c .before .before .before .before .before .before in
+below : (c : tie.Else2) → let s = start (shaped c) in
     (s .args .one < length (s .args .roots .now)) × (s .args .other < length (s .args .roots .now))
-below c = both-below _ _ _ (rooted c)
+below c = both-below _ _ _ (root c)
 
 bad-shape-requires : tie.Need-bad-shape-requires
 bad-shape-requires c κs = search needs
@@ -76,7 +87,7 @@ mul-if3-2 : tie.Need-mul-if3-2
 mul-if3-2 c = let b = below (c .before) in search needs
 
 shared-slice-read-if3-2 : tie.Need-shared-slice-read-if3-2
-shared-slice-read-if3-2 c = let b = below (c .before .before) in omega arith
+shared-slice-read-if3-2 c = let b = below (rooted c) in omega arith
 
 say-requires-3 : tie.Need-say-requires-3
 say-requires-3 c κs = search needs
@@ -84,12 +95,11 @@ say-requires-3 c κs = search needs
 returns-3 : tie.Need-returns-3
 unfolding same
 returns-3 c =
-    let found = c .before .before .before .before in
-    let shaped = found .before .before in
+    let found = rooted (c .before .before) in
     said _ _ (c .say3 .ensures)
-    (passes _ _ (shape shaped)
-    (passes _ _ (rooted found)
-    (ap (answer (start (shaped .before .before .before .before))) (sym (eq-eqb _ _ (c .before .if3 .taken))))))
+    (passes _ _ (shape (shaped found))
+    (passes _ _ (root found)
+    (ap (answer (lent (start (shaped found)))) (sym (eq-eqb _ _ (c .before .if3 .taken))))))
 
 say-requires-4 : tie.Need-say-requires-4
 say-requires-4 c κs = search needs
@@ -97,12 +107,11 @@ say-requires-4 c κs = search needs
 returns-4 : tie.Need-returns-4
 unfolding same
 returns-4 c =
-    let found = c .before .before .before .before in
-    let shaped = found .before .before in
+    let found = rooted (c .before .before) in
     said _ _ (c .say4 .ensures)
-    (passes _ _ (shape shaped)
-    (passes _ _ (rooted found)
-    (ap (answer (start (shaped .before .before .before .before))) (sym (ne-eqb _ _ (c .before .if3 .left))))))
+    (passes _ _ (shape (shaped found))
+    (passes _ _ (root found)
+    (ap (answer (lent (start (shaped found)))) (sym (ne-eqb _ _ (c .before .if3 .left))))))
 
 pub same-spec : {M : Type 1} → statement M
 same-spec =

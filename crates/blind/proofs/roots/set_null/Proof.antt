@@ -17,10 +17,14 @@ use Rattle.model.proofs.say.Reads as say-reads
 use Rattle.words.proofs.shape.bad_shape.Reads as bad-shape-reads
 
 -- what the call was lent
-abbrev start : tie.Start → State
-start c = stateOf (c .args .heap .now) (c .args .roots .now) (c .args .«record»)
+abbrev lent : tie.Start → State
+lent c = stateOf (c .args .heap .now) (c .args .roots .now) (c .args .«record»)
 
-shape : (c : tie.Else1) → badShape (start (c .before .before .before .before)) ≡ false
+-- where the call begins
+abbrev start : tie.Else1 → tie.Start
+start c = c .before .before .before .before
+
+shape : (c : tie.Else1) → badShape (lent (start c)) ≡ false
 shape c = sym (c .before .bad-shape .ensures) ∙ c .if1 .left
 
 bad-shape-requires : tie.Need-bad-shape-requires
@@ -42,7 +46,7 @@ returns-2 : tie.Need-returns-2
 unfolding setNull
 returns-2 c =
     let shaped = c .before .before in
-    let s = shaped .before .before .before .before in
+    let s = start shaped in
     said _ _ (c .say2 .ensures)
     (passes _ _ (shape shaped)
     (applies _ (le-leb (length (s .args .roots .now)) (s .args .to) (omega arith))))
