@@ -15,16 +15,19 @@ use Rattle.model.proofs.say.Reads as say-reads
 use Rattle.objects.proofs.reach.Reads as reach-reads
 
 -- what the call was lent
-abbrev start : tie.Start → State
-start c = stateOf (c .args .heap .now) (c .args .roots .now) (c .args .«record»)
+abbrev lent : tie.Start → State
+lent c = stateOf (c .args .heap .now) (c .args .roots .now) (c .args .«record»)
 
-abbrev origin : tie.After-found → tie.Start
-origin c = c .before .before .before .before .before
+-- where the call begins
+abbrev start : tie.After-reach → tie.Start
+start c = c .before .before .before
 
 -- the field that was reached lies in the heap, and the roots are there
-reached-at : (c : tie.After-found) → let s = origin c in
-    Reaches (start s) (s .args .object) (s .args .object) (c .found .given .0 .0)
-reached-at c = within tuple Untraced _ (origin c .args .field) _ _ (c .before .before .reach .ensures) (omega arith) (c .found .given .1)
+reached-at : (c : tie.After-found) → let s = start (c .before .before) in
+    Reaches (lent s) (s .args .object) (s .args .object) (c .found .given .0 .0)
+reached-at c =
+    let reached = c .before .before in
+    within tuple Untraced _ (start reached .args .field) _ _ (reached .reach .ensures) (omega arith) (c .found .given .1)
 
 reach-requires : tie.Need-reach-requires
 reach-requires c κs = search needs
@@ -50,16 +53,19 @@ say-requires-2 c κs = search needs
 returns : tie.Need-returns
 returns c =
     let found = c .before .before .before in
+    let reached = found .before .before in
     said _ _ (c .say .ensures)
     (same-number _ (omega arith)
-    ∙ by-field tuple Untraced _ (origin found .args .field) _ _ (found .before .before .reach .ensures) (omega arith) _ (raw-read-reached _ _ _ _) (found .found .given .1))
+    ∙ by-field tuple Untraced _ (start reached .args .field) _ _ (reached .reach .ensures) (omega arith) _
+      (raw-read-reached _ _ _ _) (found .found .given .1))
 
 returns-2 : tie.Need-returns-2
 returns-2 c =
     let found = c .before .before in
-    let s = found .before .before .before .before .before in
+    let reached = found .before .before in
     said _ _ (c .say2 .ensures)
-    (by-refusal tuple Untraced _ (s .args .field) _ _ (found .before .before .reach .ensures) (omega arith) _ (raw-read-reached _ _ _ _) (found .found2 .given .1))
+    (by-refusal tuple Untraced _ (start reached .args .field) _ _ (reached .reach .ensures) (omega arith) _
+    (raw-read-reached _ _ _ _) (found .found2 .given .1))
 
 pub raw-read-spec : {M : Type 1} → statement M
 raw-read-spec =

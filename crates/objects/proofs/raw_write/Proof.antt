@@ -14,16 +14,19 @@ use Rattle.model.proofs.say.Reads as say-reads
 use Rattle.objects.proofs.reach.Reads as reach-reads
 
 -- what the call was lent
-abbrev start : tie.Start → State
-start c = stateOf (c .args .heap .now) (c .args .roots .now) (c .args .«record»)
+abbrev lent : tie.Start → State
+lent c = stateOf (c .args .heap .now) (c .args .roots .now) (c .args .«record»)
 
-abbrev origin : tie.After-target → tie.Start
-origin c = c .before .before .before .before .before .before
+-- where the call begins
+abbrev start : tie.After-reach → tie.Start
+start c = c .before .before .before .before
 
 -- the field that was reached lies in the heap, and the roots are there
-reached-at : (c : tie.After-target) → let s = origin c in
-    Reaches (start s) (s .args .object) (s .args .object) (c .target .given .0 .0)
-reached-at c = within tuple Untraced _ (origin c .args .field) _ _ (c .before .before .reach .ensures) (omega arith) (c .target .given .1)
+reached-at : (c : tie.After-target) → let s = start (c .before .before) in
+    Reaches (lent s) (s .args .object) (s .args .object) (c .target .given .0 .0)
+reached-at c =
+    let reached = c .before .before in
+    within tuple Untraced _ (start reached .args .field) _ _ (reached .reach .ensures) (omega arith) (c .target .given .1)
 
 reach-requires : tie.Need-reach-requires
 reach-requires c κs = search needs
@@ -52,9 +55,11 @@ same-length c = search needs
 returns : tie.Need-returns
 returns c =
     let target = c .before .before in
-    let s = origin target in
-    written {y = s .args .number} (start s) (target .target .given .0 .0 .0) _ (c .say .ensures)
-    (by-field tuple Untraced _ (origin target .args .field) _ _ (target .before .before .reach .ensures) (omega arith) _ (raw-write-reached _ _ _ _ _) (target .target .given .1))
+    let reached = target .before .before in
+    let s = start reached in
+    written {y = s .args .number} (lent s) (target .target .given .0 .0 .0) _ (c .say .ensures)
+    (by-field tuple Untraced _ (s .args .field) _ _ (reached .reach .ensures) (omega arith) _
+    (raw-write-reached _ _ _ _ _) (target .target .given .1))
     (omega arith)
 
 same-length-2 : tie.Need-same-length-2
@@ -63,9 +68,10 @@ same-length-2 c = search needs
 returns-2 : tie.Need-returns-2
 returns-2 c =
     let target = c .before .before in
-    let s = target .before .before .before .before .before .before in
+    let reached = target .before .before in
     said _ _ (c .say2 .ensures)
-    (by-refusal tuple Untraced _ (s .args .field) _ _ (target .before .before .reach .ensures) (omega arith) _ (raw-write-reached _ _ _ _ _) (target .target2 .given .1))
+    (by-refusal tuple Untraced _ (start reached .args .field) _ _ (reached .reach .ensures) (omega arith) _
+    (raw-write-reached _ _ _ _ _) (target .target2 .given .1))
 
 pub raw-write-spec : {M : Type 1} → statement M
 raw-write-spec =

@@ -19,19 +19,30 @@ use Rattle.words.proofs.shape.no_root.Reads as no-root-reads
 use Rattle.words.proofs.shape.bad_shape.Reads as bad-shape-reads
 
 -- what the call was lent
-abbrev start : tie.Start → State
-start c = stateOf (c .args .heap .now) (c .args .roots .now) (c .args .«record»)
+abbrev lent : tie.Start → State
+lent c = stateOf (c .args .heap .now) (c .args .roots .now) (c .args .«record»)
 
-shape : (c : tie.Else1) → badShape (start (c .before .before .before .before)) ≡ false
+-- where the call begins
+abbrev start : tie.Else1 → tie.Start
+start c = c .before .before .before .before
+
+shape : (c : tie.Else1) → badShape (lent (start c)) ≡ false
 shape c = sym (c .before .bad-shape .ensures) ∙ c .if1 .left
 
-rooted : (c : tie.Else2) → let s = c .before .before .before .before .before .before in
-    (noRoot (start s) (s .args .object) || noRoot (start s) (s .args .other)) ≡ false
-rooted c = sym (c .before .no-root .ensures) ∙ c .if2 .left
+-- past the tests of SHAPE and ROOT
+abbrev shaped : tie.Else2 → tie.Else1
+shaped c = c .before .before
 
-below : (c : tie.Else2) → let s = c .before .before .before .before .before .before in
+abbrev rooted : tie.After-shared-slice-known3 → tie.Else2
+rooted c = c .before
+
+root : (c : tie.Else2) → let s = start (shaped c) in
+    (noRoot (lent s) (s .args .object) || noRoot (lent s) (s .args .other)) ≡ false
+root c = sym (c .before .no-root .ensures) ∙ c .if2 .left
+
+below : (c : tie.Else2) → let s = start (shaped c) in
     s .args .object < length (s .args .roots .now)
-below c = both-below _ _ _ (rooted c) .0
+below c = both-below _ _ _ (root c) .0
 
 bad-shape-requires : tie.Need-bad-shape-requires
 bad-shape-requires c κs = search needs
@@ -51,20 +62,19 @@ mul-field-of : tie.Need-mul-field-of
 mul-field-of c = let b = below c in search needs
 
 shared-slice-read-field-of : tie.Need-shared-slice-read-field-of
-shared-slice-read-field-of c = below (c .before)
+shared-slice-read-field-of c = below (rooted c)
 
 field-of-requires : tie.Need-field-of-requires
 field-of-requires c κs =
-    let shaped = c .before .before .before in
-    free-in-heap (start (shaped .before .before .before .before)) (shape shaped)
+    let tested = shaped (rooted c) in
+    free-in-heap (lent (start tested)) (shape tested)
 
 returns-3 : tie.Need-returns-3
 unfolding reached
 returns-3 c =
-    let found = c .before .before in
-    let shaped = found .before .before in
-    let s = shaped .before .before .before .before in
-    simp (shape shaped, rooted found) (c .field-of .ensures (s .args .roots .now))
+    let found = rooted (c .before) in
+    let tested = shaped found in
+    simp (shape tested, root found) (c .field-of .ensures (start tested .args .roots .now))
 
 pub reach-spec : {M : Type 1} → statement M
 reach-spec =

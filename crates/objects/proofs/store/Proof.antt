@@ -15,15 +15,16 @@ use Rattle.model.proofs.say.Reads as say-reads
 use Rattle.objects.proofs.reach.Reads as reach-reads
 
 -- what the call was lent
-abbrev start : tie.Start → State
-start c = stateOf (c .args .heap .now) (c .args .roots .now) (c .args .«record»)
+abbrev lent : tie.Start → State
+lent c = stateOf (c .args .heap .now) (c .args .roots .now) (c .args .«record»)
 
-abbrev origin : tie.After-target → tie.Start
-origin c = c .before .before .before .before .before .before
+-- where the call begins
+abbrev start : tie.After-reach → tie.Start
+start c = c .before .before .before .before
 
 -- the field that was reached lies in the heap, and the roots are there
-reached-at : (c : tie.After-target) → let s = origin c in
-    Reaches (start s) (s .args .object) (s .args .from) (c .target .given .0 .0)
+reached-at : (c : tie.After-target) → let s = start (c .before .before) in
+    Reaches (lent s) (s .args .object) (s .args .from) (c .target .given .0 .0)
 reached-at c = within tuple Traced _ _ _ _ (c .before .before .reach .ensures) refl (c .target .given .1)
 
 reach-requires : tie.Need-reach-requires
@@ -60,7 +61,8 @@ returns : tie.Need-returns
 returns c =
     let target = c .before .before .before in
     said _ _ (c .say .ensures)
-    (by-field tuple Traced _ _ _ _ (target .before .before .reach .ensures) refl _ (store-reached _ _ _ _ _) (target .target .given .1))
+    (by-field tuple Traced _ _ _ _ (target .before .before .reach .ensures) refl _
+    (store-reached _ _ _ _ _) (target .target .given .1))
 
 same-length-2 : tie.Need-same-length-2
 same-length-2 c = search needs
@@ -69,7 +71,8 @@ returns-2 : tie.Need-returns-2
 returns-2 c =
     let target = c .before .before in
     said _ _ (c .say2 .ensures)
-    (by-refusal tuple Traced _ _ _ _ (target .before .before .reach .ensures) refl _ (store-reached _ _ _ _ _) (target .target2 .given .1))
+    (by-refusal tuple Traced _ _ _ _ (target .before .before .reach .ensures) refl _
+    (store-reached _ _ _ _ _) (target .target2 .given .1))
 
 pub store-spec : {M : Type 1} → statement M
 store-spec =
