@@ -21,10 +21,21 @@ use Rattle.words.proofs.tuple.Tuple.count_of.Reads as count-of-reads
 use Rattle.words.proofs.tuple.Tuple.index_of.Reads as index-of-reads
 
 -- what the call was lent, with any roots
-abbrev start : tie.Start → List ℕ → State
-start c R = stateOf (c .args .heap .now) R (c .args .«record»)
+abbrev lent : tie.Start → List ℕ → State
+lent c R = stateOf (c .args .heap .now) R (c .args .«record»)
 
-named : (c : tie.Else1) (R : List ℕ) → let s = c .before .before .before in not (names tuple (start s R) (s .args .word)) ≡ false
+-- where the call begins
+abbrev start : tie.Else1 → tie.Start
+start c = c .before .before .before
+
+-- past the test for an object, and at its index
+abbrev found : tie.After-index-of → tie.Else1
+found c = c .before
+
+abbrev indexed : tie.Else2 → tie.After-index-of
+indexed c = c .before .before .before
+
+named : (c : tie.Else1) (R : List ℕ) → let s = start c in not (names tuple (lent s R) (s .args .word)) ≡ false
 named c R = ap not (sym (c .before .names .ensures R)) ∙ c .if1 .left
 
 names-requires : tie.Need-names-requires
@@ -32,7 +43,7 @@ names-requires c κs = search needs
 
 returns : tie.Need-returns
 returns c = λ R.
-    field-tests _ _ _ _ _ (start (c .before .before .before) R) refl
+    field-tests _ _ _ _ _ (lent (c .before .before .before) R) refl
     (ap not (sym (c .before .names .ensures R)) ∙ c .if1 .taken) refl refl
 
 index-of-requires : tie.Need-index-of-requires
@@ -43,18 +54,17 @@ mul-header c = search needs
 
 shared-slice-read-header : tie.Need-shared-slice-read-header
 shared-slice-read-header c =
-    let found = c .before .before in
-    rw (c .before .index-of .ensures)
-    (header-in _ _ [] _ _ (found .before .before .before .pre) (not-false _ (named found [])))
+    let i = c .before in
+    rw (i .index-of .ensures)
+    (header-in _ _ [] _ _ (start (found i) .pre) (not-false _ (named (found i) [])))
 
 is-of-kind-requires : tie.Need-is-of-kind-requires
 is-of-kind-requires c κs = search needs
 
 returns-2 : tie.Need-returns-2
 returns-2 c = λ R.
-    let indexed = c .before .before .before in
-    let found = indexed .before in
-    field-tests _ _ _ _ _ (start (found .before .before .before) R) (indexed .index-of .ensures) (named found R)
+    let i = c .before .before .before in
+    field-tests _ _ _ _ _ (lent (start (found i)) R) (i .index-of .ensures) (named (found i) R)
     (ap not (sym (c .before .is-of-kind .ensures)) ∙ c .if2 .taken) refl
 
 count-of-requires : tie.Need-count-of-requires
@@ -64,10 +74,9 @@ returns-3 : tie.Need-returns-3
 returns-3 c = λ R.
     let counted = c .before in
     let kept = counted .before in
-    let indexed = kept .before .before .before in
-    let found = indexed .before in
-    let s = found .before .before .before in
-    field-tests _ _ _ _ _ (start s R) (indexed .index-of .ensures) (named found R)
+    let i = indexed kept in
+    let s = start (found i) in
+    field-tests _ _ _ _ _ (lent s R) (i .index-of .ensures) (named (found i) R)
     (ap not (sym (kept .before .is-of-kind .ensures)) ∙ kept .if2 .left)
     (ap (λ (n : ℕ). leb n (s .args .field)) (sym (counted .count-of .ensures .0))
     ∙ le-leb (counted .count-of .result) (s .args .field) (omega arith))
@@ -82,10 +91,9 @@ returns-4 : tie.Need-returns-4
 returns-4 c = λ R.
     let counted = c .before in
     let kept = counted .before in
-    let indexed = kept .before .before .before in
-    let found = indexed .before in
-    let s = found .before .before .before in
-    field-tests _ _ _ _ _ (start s R) (indexed .index-of .ensures) (named found R)
+    let i = indexed kept in
+    let s = start (found i) in
+    field-tests _ _ _ _ _ (lent s R) (i .index-of .ensures) (named (found i) R)
     (ap not (sym (kept .before .is-of-kind .ensures)) ∙ kept .if2 .left)
     (ap (λ (n : ℕ). leb n (s .args .field)) (sym (counted .count-of .ensures .0)) ∙ lt-leb _ _ (c .if3 .left))
 

@@ -23,17 +23,40 @@ use Rattle.words.proofs.tuple.Tuple.is_header.Reads as is-header-reads
 use Rattle.words.proofs.tuple.is_address.Reads as is-address-reads
 
 -- what the call was lent, with any roots
-abbrev start : tie.Start → List ℕ → State
-start c R = stateOf (c .args .heap .now) R (c .args .«record»)
+abbrev lent : tie.Start → List ℕ → State
+lent c R = stateOf (c .args .heap .now) R (c .args .«record»)
 
-address : (c : tie.Else1) → isAddress (c .before .before .before .args .word) ≡ true
+-- where the call begins
+abbrev start : tie.Else1 → tie.Start
+start c = c .before .before .before
+
+-- past the tests of the word: it is an address, of a whole word
+abbrev addressed : tie.Else2 → tie.Else1
+addressed c = c .before
+
+abbrev aligned : tie.After-first-of → tie.Else2
+aligned c = c .before .before
+
+-- the half's first word and the index are known; the index is not below the one, and below the free index
+abbrev based : tie.After-index-of → tie.After-first-of
+based c = c .before
+
+abbrev indexed : tie.Else3 → tie.After-index-of
+indexed c = c .before
+
+abbrev past : tie.Else4 → tie.Else3
+past c = c .before
+
+abbrev below : tie.After-is-header → tie.Else4
+below c = c .before .before
+
+address : (c : tie.Else1) → isAddress (start c .args .word) ≡ true
 address c = sym (c .before .is-address .ensures) ∙ not-false _ (c .if1 .left)
 
 -- the half's first word, by the heap's length
-first : (c : tie.After-first-of) → let s = c .before .before .before .before .before .before in
-    c .first-of .result .0 ≡ firstWord (start s [])
+first : (c : tie.After-first-of) → c .first-of .result .0 ≡ firstWord (lent (start (addressed (aligned c))) [])
 first c =
-    let s = c .before .before .before .before .before .before in
+    let s = start (addressed (aligned c)) in
     first-by-length _ (s .args .«record» .half) (c .first-of .ensures) (c .before .half-words .ensures)
 
 is-address-requires : tie.Need-is-address-requires
@@ -41,12 +64,12 @@ is-address-requires c κs = search needs
 
 returns : tie.Need-returns
 returns c = λ R.
-    names-tests _ (start (c .before .before .before) R) _ _ _ refl refl
+    names-tests _ (lent (c .before .before .before) R) _ _ _ refl refl
     (sym (c .before .is-address .ensures) ∙ not-true _ (c .if1 .taken)) refl refl refl refl refl
 
 returns-2 : tie.Need-returns-2
 returns-2 c = λ R.
-    names-tests _ (start (c .before .before .before .before) R) _ _ _ refl refl
+    names-tests _ (lent (start (c .before)) R) _ _ _ refl refl
     (address (c .before)) (ne-eqb _ _ (c .if2 .taken)) refl refl refl refl
 
 half-words-requires : tie.Need-half-words-requires
@@ -60,22 +83,19 @@ index-of-requires c κs = search needs
 
 returns-3 : tie.Need-returns-3
 returns-3 c = λ R.
-    let indexed = c .before in
-    let based = indexed .before in
-    let aligned = based .before .before in
-    names-tests _ (start (aligned .before .before .before .before) R) _ _ _
-    (indexed .index-of .ensures) (first based)
-    (address (aligned .before)) (eq-eqb _ _ (aligned .if2 .left)) (lt-leb _ _ (c .if3 .taken)) refl refl refl
+    let i = c .before in
+    let a = aligned (based i) in
+    names-tests _ (lent (start (addressed a)) R) _ _ _
+    (i .index-of .ensures) (first (based i))
+    (address (addressed a)) (eq-eqb _ _ (a .if2 .left)) (lt-leb _ _ (c .if3 .taken)) refl refl refl
 
 returns-4 : tie.Need-returns-4
 returns-4 c = λ R.
-    let past = c .before in
-    let indexed = past .before in
-    let based = indexed .before in
-    let aligned = based .before .before in
-    names-tests _ (start (aligned .before .before .before .before) R) _ _ _
-    (indexed .index-of .ensures) (first based)
-    (address (aligned .before)) (eq-eqb _ _ (aligned .if2 .left)) (le-leb _ _ (past .if3 .left))
+    let i = indexed (c .before) in
+    let a = aligned (based i) in
+    names-tests _ (lent (start (addressed a)) R) _ _ _
+    (i .index-of .ensures) (first (based i))
+    (address (addressed a)) (eq-eqb _ _ (a .if2 .left)) (le-leb _ _ (c .before .if3 .left))
     (le-ltb _ _ (c .if4 .taken)) refl refl
 
 mul-header : tie.Need-mul-header
@@ -90,15 +110,13 @@ is-header-requires c κs = search needs
 returns-5 : tie.Need-returns-5
 returns-5 c = λ R.
     let tested = c .before in
-    let below = tested .before .before in
-    let past = below .before in
-    let indexed = past .before in
-    let based = indexed .before in
-    let aligned = based .before .before in
-    names-tests _ (start (aligned .before .before .before .before) R) _ _ _
-    (indexed .index-of .ensures) (first based)
-    (address (aligned .before)) (eq-eqb _ _ (aligned .if2 .left)) (le-leb _ _ (past .if3 .left))
-    (lt-ltb _ _ (below .if4 .left)) (sym (tested .is-header .ensures) ∙ not-true _ (c .if5 .taken)) refl
+    let p = past (below tested) in
+    let i = indexed p in
+    let a = aligned (based i) in
+    names-tests _ (lent (start (addressed a)) R) _ _ _
+    (i .index-of .ensures) (first (based i))
+    (address (addressed a)) (eq-eqb _ _ (a .if2 .left)) (le-leb _ _ (p .if3 .left))
+    (lt-ltb _ _ (below tested .if4 .left)) (sym (tested .is-header .ensures) ∙ not-true _ (c .if5 .taken)) refl
 
 count-of-requires : tie.Need-count-of-requires
 count-of-requires c κs = search needs
@@ -113,16 +131,14 @@ returns-6 : tie.Need-returns-6
 returns-6 c = λ R.
     let headed = c .before in
     let tested = headed .before in
-    let below = tested .before .before in
-    let past = below .before in
-    let indexed = past .before in
-    let based = indexed .before in
-    let aligned = based .before .before in
-    let s = aligned .before .before .before .before in
-    names-tests _ (start s R) _ _ _
-    (indexed .index-of .ensures) (first based)
-    (address (aligned .before)) (eq-eqb _ _ (aligned .if2 .left)) (le-leb _ _ (past .if3 .left))
-    (lt-ltb _ _ (below .if4 .left)) (sym (tested .is-header .ensures) ∙ not-false _ (headed .if5 .left))
+    let p = past (below tested) in
+    let i = indexed p in
+    let a = aligned (based i) in
+    let s = start (addressed a) in
+    names-tests _ (lent s R) _ _ _
+    (i .index-of .ensures) (first (based i))
+    (address (addressed a)) (eq-eqb _ _ (a .if2 .left)) (le-leb _ _ (p .if3 .left))
+    (lt-ltb _ _ (below tested .if4 .left)) (sym (tested .is-header .ensures) ∙ not-false _ (headed .if5 .left))
     (ap (λ (e : ℕ). leb e (s .args .«record» .free .0)) (omega (arith, c .count-of .ensures .0)))
 
 pub names-spec : {M : Type 1} → statement M

@@ -30,21 +30,38 @@ use Rattle.words.proofs.tuple.Tuple.index_of.Reads as index-of-reads
 use Rattle.words.proofs.tuple.Tuple.kind_of.Reads as kind-of-reads
 
 -- what the call was lent
-abbrev start : tie.Start → State
-start c = stateOf (c .args .heap .now) (c .args .roots .now) (c .args .«record»)
+abbrev lent : tie.Start → State
+lent c = stateOf (c .args .heap .now) (c .args .roots .now) (c .args .«record»)
 
-shape : (c : tie.Else1) → badShape (start (c .before .before .before .before)) ≡ false
+-- where the call begins
+abbrev start : tie.Else1 → tie.Start
+start c = c .before .before .before .before
+
+shape : (c : tie.Else1) → badShape (lent (start c)) ≡ false
 shape c = sym (c .before .bad-shape .ensures) ∙ c .if1 .left
 
-named : (c : tie.Else5) → let s = c .before .before .before .before .before .before .before .before .before .before in
-    names tuple (start s) (rootWord (start s) (s .args .root)) ≡ true
+-- past the tests of SHAPE and ROOT, at the root's word, and past its tests for a plain value
+abbrev shaped : tie.Else2 → tie.Else1
+shaped c = c .before
+
+abbrev rooted : tie.After-shared-slice-known3 → tie.Else2
+rooted c = c .before
+
+abbrev read : tie.Else4 → tie.After-shared-slice-known3
+read c = c .before .before
+
+abbrev held : tie.Else5 → tie.Else4
+held c = c .before .before
+
+named : (c : tie.Else5) → let s = start (shaped (rooted (read (held c)))) in
+    names tuple (lent s) (rootWord (lent s) (s .args .root)) ≡ true
 named c = sym (c .before .names .ensures _) ∙ not-false _ (c .if5 .left)
 
-below : (c : tie.After-index-of) → let s = c .before .before .before .before .before .before .before .before .before .before .before in
+below : (c : tie.After-index-of) → let s = start (shaped (rooted (read (held (c .before))))) in
     c .index-of .result .0 < length (s .args .heap .now)
 below c =
-    let shaped = c .before .before .before .before .before .before .before in
-    header-below _ (start (shaped .before .before .before .before)) _ _ (c .index-of .ensures) (shape shaped) (named (c .before))
+    let tested = shaped (rooted (read (held (c .before)))) in
+    header-below _ (lent (start tested)) _ _ (c .index-of .ensures) (shape tested) (named (c .before))
 
 bad-shape-requires : tie.Need-bad-shape-requires
 bad-shape-requires c κs = search needs
@@ -82,41 +99,38 @@ say-requires-3 c κs = search needs
 
 returns-3 : tie.Need-returns-3
 returns-3 c =
-    let rooted = c .before .before .before .before in
-    let shaped = rooted .before in
-    let s = shaped .before .before .before .before in
+    let found = rooted (c .before .before .before) in
+    let s = lent (start (shaped found)) in
     said _ _ (c .say3 .ensures)
-    (ap (λ (v : ℤ). says (Says.Integer v) (start s)) (search needs)
-    ∙ inspect-integer _ (start s) _ (shape shaped) (rooted .if2 .left) (c .before .before .if3 .taken))
+    (ap (λ (v : ℤ). says (Says.Integer v) s) (search needs)
+    ∙ inspect-integer _ s _ (shape (shaped found)) (found .if2 .left) (c .before .before .if3 .taken))
 
 say-requires-4 : tie.Need-say-requires-4
 say-requires-4 c κs = search needs
 
 returns-4 : tie.Need-returns-4
 returns-4 c =
-    let rooted = c .before .before .before .before in
-    let shaped = rooted .before in
+    let found = rooted (c .before .before .before) in
     said _ _ (c .say4 .ensures)
-    (inspect-null _ (start (shaped .before .before .before .before)) _ (shape shaped)
-    (rooted .if2 .left) (c .before .if4 .taken))
+    (inspect-null _ (lent (start (shaped found))) _ (shape (shaped found))
+    (found .if2 .left) (c .before .if4 .taken))
 
 names-requires : tie.Need-names-requires
 names-requires c κs =
-    let shaped = c .before .before .before .before in
-    free-in-heap (start (shaped .before .before .before .before)) (shape shaped)
+    let tested = shaped (rooted (read c)) in
+    free-in-heap (lent (start tested)) (shape tested)
 
 say-requires-5 : tie.Need-say-requires-5
 say-requires-5 c κs = search needs
 
 returns-5 : tie.Need-returns-5
 returns-5 c =
-    let even = c .before .before .before .before in
-    let rooted = even .before .before in
-    let shaped = rooted .before in
-    let s = shaped .before .before .before .before in
+    let nonnull = c .before .before .before in
+    let found = rooted (read nonnull) in
+    let s = start (shaped found) in
     said _ _ (c .say5 .ensures)
-    (inspect-nothing _ (start s) _ (shape shaped)
-    (rooted .if2 .left) (even .if3 .left) (c .before .before .before .if4 .left)
+    (inspect-nothing _ (lent s) _ (shape (shaped found))
+    (found .if2 .left) (nonnull .before .if3 .left) (nonnull .if4 .left)
     (sym (c .before .before .names .ensures (s .args .roots .now)) ∙ not-true _ (c .before .if5 .taken)))
 
 index-of-requires : tie.Need-index-of-requires
@@ -144,13 +158,11 @@ returns-6 : tie.Need-returns-6
 returns-6 c =
     let indexed = c .before .before .before .before in
     let object = indexed .before in
-    let held = object .before .before in
-    let even = held .before in
-    let rooted = even .before .before in
-    let shaped = rooted .before in
+    let nonnull = held object in
+    let found = rooted (read nonnull) in
     said _ _ (c .say6 .ensures)
-    (inspect-object _ (start (shaped .before .before .before .before)) _ (shape shaped)
-    (rooted .if2 .left) (even .if3 .left) (held .if4 .left) _ _ _
+    (inspect-object _ (lent (start (shaped found))) _ (shape (shaped found))
+    (found .if2 .left) (nonnull .before .if3 .left) (nonnull .if4 .left) _ _ _
     (indexed .index-of .ensures) (c .before .before .kind-of .ensures) (c .before .count-of .ensures .0) (named object))
 
 pub inspect-spec : {M : Type 1} → statement M

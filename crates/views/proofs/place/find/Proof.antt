@@ -22,21 +22,35 @@ use Rattle.words.proofs.tuple.Tuple.count_of.Reads as count-of-reads
 use Rattle.words.proofs.tuple.Tuple.index_of.Reads as index-of-reads
 
 -- what the call was lent
-abbrev start : tie.Start → State
-start c = stateOf (c .args .heap .now) (c .args .roots .now) (c .args .«record»)
+abbrev lent : tie.Start → State
+lent c = stateOf (c .args .heap .now) (c .args .roots .now) (c .args .«record»)
 
-shape : (c : tie.Else1) → badShape (start (c .before .before .before .before)) ≡ false
+-- where the call begins
+abbrev start : tie.Else1 → tie.Start
+start c = c .before .before .before .before
+
+shape : (c : tie.Else1) → badShape (lent (start c)) ≡ false
 shape c = sym (c .before .bad-shape .ensures) ∙ c .if1 .left
 
-named : (c : tie.Else3) → let s = c .before .before .before .before .before .before .before .before in
-    names tuple (start s) (rootWord (start s) (s .args .object)) ≡ true
+-- past the tests of SHAPE and ROOT, at the root's word, and past that of its object
+abbrev shaped : tie.Else2 → tie.Else1
+shaped c = c .before
+
+abbrev rooted : tie.After-shared-slice-known3 → tie.Else2
+rooted c = c .before
+
+abbrev read : tie.Else3 → tie.After-shared-slice-known3
+read c = c .before .before
+
+named : (c : tie.Else3) → let s = start (shaped (rooted (read c))) in
+    names tuple (lent s) (rootWord (lent s) (s .args .object)) ≡ true
 named c = sym (c .before .names .ensures _) ∙ not-false _ (c .if3 .left)
 
-below : (c : tie.After-index-of) → let s = c .before .before .before .before .before .before .before .before .before in
+below : (c : tie.After-index-of) → let s = start (shaped (rooted (read (c .before)))) in
     c .index-of .result .0 < length (s .args .heap .now)
 below c =
-    let shaped = c .before .before .before .before .before in
-    header-below _ (start (shaped .before .before .before .before)) _ _ (c .index-of .ensures) (shape shaped) (named (c .before))
+    let tested = shaped (rooted (read (c .before))) in
+    header-below _ (lent (start tested)) _ _ (c .index-of .ensures) (shape tested) (named (c .before))
 
 bad-shape-requires : tie.Need-bad-shape-requires
 bad-shape-requires c κs = search needs
@@ -57,19 +71,18 @@ shared-slice-read-word c = search needs
 
 names-requires : tie.Need-names-requires
 names-requires c κs =
-    let shaped = c .before .before in
-    free-in-heap (start (shaped .before .before .before .before)) (shape shaped)
+    let tested = shaped (rooted c) in
+    free-in-heap (lent (start tested)) (shape tested)
 
 returns-3 : tie.Need-returns-3
 unfolding window
 returns-3 c =
-    let rooted = c .before .before .before in
-    let shaped = rooted .before in
-    let s = shaped .before .before .before .before in
+    let found = rooted (c .before .before) in
+    let tested = shaped found in
     simp (
-      shape shaped,
-      lt-leb _ _ (rooted .if2 .left),
-      ap not (sym (c .before .names .ensures (s .args .roots .now))) ∙ c .if3 .taken,
+      shape tested,
+      lt-leb _ _ (found .if2 .left),
+      ap not (sym (c .before .names .ensures (start tested .args .roots .now))) ∙ c .if3 .taken,
     )
 
 index-of-requires : tie.Need-index-of-requires
@@ -92,10 +105,10 @@ unfolding window
 returns-4 c =
     let indexed = c .before .before in
     let object = indexed .before in
-    let rooted = object .before .before .before in
+    let found = rooted (read object) in
     simp (
-      shape (rooted .before),
-      lt-leb _ _ (rooted .if2 .left),
+      shape (shaped found),
+      lt-leb _ _ (found .if2 .left),
       named object,
       sym (indexed .index-of .ensures),
       sym (c .count-of .ensures .0),
