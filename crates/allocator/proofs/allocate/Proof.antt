@@ -5,7 +5,7 @@ use native.Mathlib.Omega.{arith}
 use Rattle.model.specs.Headers.{tuple}
 use Rattle.model.specs.Words.{State, stateOf}
 use Rattle.model.specs.Shape.{badShape}
-use Rattle.model.proofs.Shape.{shaped}
+use Rattle.model.proofs.Shape as Shape
 use Rattle.model.proofs.Refusing.{said}
 use Rattle.allocator.proofs.AllocateCases.{allocate-shape, allocate-root, allocate-count, allocate-retry}
 use Rattle.placing.proofs.PlacingLaws.{allocate-now, may-spare, may-place}
@@ -21,10 +21,27 @@ use Rattle.placing.proofs.spare_of.Reads as spare-of-reads
 use Rattle.words.proofs.shape.bad_shape.Reads as bad-shape-reads
 
 -- what the call was lent
-abbrev start : tie.Start → State
-start c = stateOf (c .args .heap .now) (c .args .roots .now) (c .args .«record»)
+abbrev lent : tie.Start → State
+lent c = stateOf (c .args .heap .now) (c .args .roots .now) (c .args .«record»)
 
-shape : (c : tie.Else1) → badShape (start (c .before .before .before .before)) ≡ false
+-- where the call begins
+abbrev start : tie.Else1 → tie.Start
+start c = c .before .before .before .before
+
+-- past the tests of SHAPE, ROOT and COUNT, and where the words are free
+abbrev shaped : tie.Else2 → tie.Else1
+shaped c = c .before
+
+abbrev rooted : tie.Else3 → tie.Else2
+rooted c = c .before
+
+abbrev counted : tie.After-spare-of → tie.Else3
+counted c = c .before
+
+abbrev roomy : tie.After-place-arg2 → tie.Then4
+roomy c = c .before .before
+
+shape : (c : tie.Else1) → badShape (lent (start c)) ≡ false
 shape c = sym (c .before .bad-shape .ensures) ∙ c .if1 .left
 
 bad-shape-requires : tie.Need-bad-shape-requires
@@ -51,27 +68,23 @@ say-requires-3 c κs = search needs
 
 returns-3 : tie.Need-returns-3
 returns-3 c =
-    let counted = c .before in
-    let rooted = counted .before in
+    let found = c .before .before in
     said _ _ (c .say3 .ensures)
-    (sym (allocate-count tuple _ _ _ _ (shape (rooted .before)) (rooted .if2 .left) (counted .if3 .taken)))
+    (sym (allocate-count tuple _ _ _ _ (shape (shaped found)) (found .if2 .left) (c .before .if3 .taken)))
 
 spare-of-requires : tie.Need-spare-of-requires
 spare-of-requires c κs =
-    let tested = c .before .before in
-    let s = tested .before .before .before .before in
-    may-spare (start s) (shaped (start s) (shape tested))
+    let tested = shaped (rooted c) in
+    may-spare (lent (start tested)) (Shape.shaped (lent (start tested)) (shape tested))
 
 place-requires : tie.Need-place-requires
 place-requires c κs =
-    let roomy = c .before .before in
-    let counted = roomy .before .before in
-    let rooted = counted .before in
-    let tested = rooted .before in
-    let s = tested .before .before .before .before in
-    may-place (start s) (s .args .fields) (s .args .to)
-    (shaped (start s) (shape tested)) (rooted .if2 .left) (counted .if3 .left)
-    (omega (arith, roomy .before .spare-of .ensures, roomy .if4 .taken))
+    let spare = roomy c .before in
+    let found = rooted (counted spare) in
+    let s = start (shaped found) in
+    may-place (lent s) (s .args .fields) (s .args .to)
+    (Shape.shaped (lent s) (shape (shaped found))) (found .if2 .left) (counted spare .if3 .left)
+    (omega (arith, spare .spare-of .ensures, roomy c .if4 .taken))
 
 say-requires-4 : tie.Need-say-requires-4
 say-requires-4 c κs = search needs
@@ -85,16 +98,15 @@ same-length-2 c = search needs
 returns-4 : tie.Need-returns-4
 returns-4 c =
     let placed = c .before .before .before .before .before in
-    let roomy = placed .before .before .before in
-    let counted = roomy .before .before in
-    let rooted = counted .before in
-    let tested = rooted .before in
-    let s = tested .before .before .before .before in
+    let room = roomy (placed .before) in
+    let spare = room .before in
+    let found = rooted (counted spare) in
+    let s = start (shaped found) in
     said _ _ (c .say4 .ensures)
     (rw (
-      allocate-now tuple (s .args .kind) (s .args .fields) (s .args .to) (start s)
-          (shape tested) (rooted .if2 .left) (counted .if3 .left)
-          (omega (arith, roomy .before .spare-of .ensures, roomy .if4 .taken)),
+      allocate-now tuple (s .args .kind) (s .args .fields) (s .args .to) (lent s)
+          (shape (shaped found)) (found .if2 .left) (counted spare .if3 .left)
+          (omega (arith, spare .spare-of .ensures, room .if4 .taken)),
       ← (placed .place .ensures),
     ))
 
@@ -109,16 +121,16 @@ same-length-4 c = search needs
 
 returns-5 : tie.Need-returns-5
 returns-5 c =
-    let full = c .before .before .before .before .before .before .before in
-    let counted = full .before .before in
-    let rooted = counted .before in
-    let tested = rooted .before in
-    let s = tested .before .before .before .before in
+    let retried = c .before .before .before .before in
+    let full = retried .before .before .before in
+    let spare = full .before in
+    let found = rooted (counted spare) in
+    let s = start (shaped found) in
     rw
-    (allocate-retry tuple (s .args .kind) (s .args .fields) (s .args .to) (start s)
-    (shape tested) (rooted .if2 .left) (counted .if3 .left)
-    (omega (arith, full .before .spare-of .ensures, full .if4 .left)))
-    (c .before .before .before .before .retry .ensures)
+    (allocate-retry tuple (s .args .kind) (s .args .fields) (s .args .to) (lent s)
+    (shape (shaped found)) (found .if2 .left) (counted spare .if3 .left)
+    (omega (arith, spare .spare-of .ensures, full .if4 .left)))
+    (retried .retry .ensures)
 
 pub allocate-spec : {M : Type 1} → statement M
 allocate-spec =

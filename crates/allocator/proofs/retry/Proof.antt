@@ -22,46 +22,60 @@ use Rattle.placing.proofs.place.Reads as place-reads
 use Rattle.placing.proofs.spare_of.Reads as spare-of-reads
 
 -- what the call was lent
-abbrev start : tie.Start → State
-start c = stateOf (c .args .heap .now) (c .args .roots .now) (c .args .«record»)
+abbrev lent : tie.Start → State
+lent c = stateOf (c .args .heap .now) (c .args .roots .now) (c .args .«record»)
 
-abbrev origin : tie.After-after → tie.Start
-origin c =
-    let tested = c .before .before .before .before .before .before .before .before in
-    tested .before .before .before .before .before .before .before .before
+-- where the call begins
+abbrev start : tie.After-is-sound → tie.Start
+start c = c .before .before .before .before .before
 
--- once the collection is done: the heap was found sound, and this is what is left
-checked : (c : tie.After-after) → sound tuple (start (origin c)) ≡ true
+-- the heap is judged, found sound, and collected; its record is known, and there is room
+abbrev judged : tie.After-slice-known3 → tie.After-is-sound
+judged c = c .before .before
+
+abbrev found : tie.After-collect-among → tie.Then1
+found c = c .before .before .before
+
+abbrev done : tie.After-after → tie.After-collect-among
+done c = c .before .before .before .before .before
+
+abbrev known : tie.After-spare-of → tie.After-after
+known c = c .before
+
+abbrev roomy : tie.After-place-arg2 → tie.Then2
+roomy c = c .before .before
+
+checked : (c : tie.Then1) → sound tuple (lent (start (judged (c .before)))) ≡ true
 checked c =
-    let tested = c .before .before .before .before .before .before .before .before in
-    let asked = tested .before .before .before .is-sound in
-    sym (asked .ensures .0) ∙ cc (or-false (asked .result), tested .if1 .taken)
+    let asked = judged (c .before) .is-sound in
+    sym (asked .ensures .0) ∙ cc (or-false (asked .result), c .if1 .taken)
 
-left : (c : tie.After-after) → let l = c .before .before .before .before .before .collect-among in
-    stateOf (l .last .0) (l .last .1 .0) (l .result .«record») ≡ collected tuple (start (origin c))
+-- what the collection left
+left : (c : tie.After-collect-among) → let l = c .collect-among in
+    stateOf (l .last .0) (l .last .1 .0) (l .result .«record»)
+    ≡ collected tuple (lent (start (judged (found c .before))))
 left c =
-    let done = c .before .before .before .before .before in
-    let asked = done .before .before .before .before .before .before in
-    left-is tuple _ _ _ _ (asked .is-sound .ensures .1) _ _ (done .collect-among .ensures)
+    left-is tuple _ _ _ _ (judged (found c .before) .is-sound .ensures .1) _ _ (c .collect-among .ensures)
 
 is-sound-requires : tie.Need-is-sound-requires
 is-sound-requires c κs = search needs
 
 collect-among-requires : tie.Need-collect-among-requires
 collect-among-requires c κs =
-    let asked = c .before .before .before .before .before .is-sound in
-    rw (asked .ensures .1) (omega arith, sym (asked .ensures .0) ∙ cc (or-false (asked .result), c .before .before .if1 .taken))
+    let sound = c .before .before in
+    rw (judged (sound .before) .is-sound .ensures .1) (omega arith, checked sound)
 
 spare-of-requires : tie.Need-spare-of-requires
-spare-of-requires c κs = may-spare _ (left-shaped tuple _ (checked c) _ (left c))
+spare-of-requires c κs = may-spare _ (left-shaped tuple _ (checked (found (done c))) _ (left (done c)))
 
 place-requires : tie.Need-place-requires
 place-requires c κs =
-    let roomy = c .before .before in
-    let after = roomy .before .before in
-    may-place _ _ _ (left-shaped tuple _ (checked after) _ (left after))
-    (omega (arith, left-roots tuple _ (checked after) _ (left after), origin after .pre .1)) (origin after .pre .0)
-    (omega (arith, roomy .before .spare-of .ensures, roomy .if2 .taken))
+    let spare = roomy c .before in
+    let after = done (known spare) in
+    let s = start (judged (found after .before)) in
+    may-place _ _ _ (left-shaped tuple _ (checked (found after)) _ (left after))
+    (omega (arith, left-roots tuple _ (checked (found after)) _ (left after), s .pre .1)) (s .pre .0)
+    (omega (arith, spare .spare-of .ensures, roomy c .if2 .taken))
 
 say-requires : tie.Need-say-requires
 say-requires c κs = search needs
@@ -75,11 +89,11 @@ same-length-2 c = search needs
 returns : tie.Need-returns
 returns c =
     let placed = c .before .before .before .before .before in
-    let roomy = placed .before .before .before in
-    let after = roomy .before .before in
+    let room = roomy (placed .before) in
+    let after = done (known (room .before)) in
     said _ _ (c .say .ensures)
-    (retried-done tuple _ _ _ _ (checked after) _ (left after) _
-    (roomy .before .spare-of .ensures) (roomy .if2 .taken) _ (placed .place .ensures))
+    (retried-done tuple _ _ _ _ (checked (found after)) _ (left after) _
+    (room .before .spare-of .ensures) (room .if2 .taken) _ (placed .place .ensures))
 
 say-requires-2 : tie.Need-say-requires-2
 say-requires-2 c κs = search needs
@@ -93,9 +107,10 @@ same-length-4 c = search needs
 returns-2 : tie.Need-returns-2
 returns-2 c =
     let full = c .before in
-    let after = full .before .before in
+    let after = done (known (full .before)) in
     said _ _ (c .say2 .ensures)
-    (retried-room tuple _ _ _ _ (checked after) _ (left after) _ (full .before .spare-of .ensures) (full .if2 .left))
+    (retried-room tuple _ _ _ _ (checked (found after)) _ (left after) _
+    (full .before .spare-of .ensures) (full .if2 .left))
 
 say-requires-3 : tie.Need-say-requires-3
 say-requires-3 c κs = search needs
@@ -108,11 +123,11 @@ same-length-6 c = search needs
 
 returns-3 : tie.Need-returns-3
 returns-3 c =
-    let judged = c .before in
-    let asked = judged .before .before .before .is-sound in
+    let unsound = c .before in
+    let asked = judged (unsound .before) .is-sound in
     said _ _ (c .say3 .ensures)
     (rw (asked .ensures .1)
-    (sym (retried-damaged tuple _ _ _ _ (sym (asked .ensures .0) ∙ cc (or-false (asked .result), judged .if1 .left)))))
+    (sym (retried-damaged tuple _ _ _ _ (sym (asked .ensures .0) ∙ cc (or-false (asked .result), unsound .if1 .left)))))
 
 pub retry-spec : {M : Type 1} → statement M
 retry-spec =

@@ -17,10 +17,21 @@ use Rattle.model.proofs.say.Reads as say-reads
 use Rattle.words.proofs.shape.bad_shape.Reads as bad-shape-reads
 
 -- what the call was lent
-abbrev start : tie.Start → State
-start c = stateOf (c .args .heap .now) (c .args .roots .now) (c .args .«record»)
+abbrev lent : tie.Start → State
+lent c = stateOf (c .args .heap .now) (c .args .roots .now) (c .args .«record»)
 
-shape : (c : tie.Else1) → badShape (start (c .before .before .before .before)) ≡ false
+-- where the call begins
+abbrev start : tie.Else1 → tie.Start
+start c = c .before .before .before .before
+
+-- past the test of SHAPE, and the heap is judged
+abbrev shaped : tie.After-is-sound → tie.Else1
+shaped c = c .before .before .before
+
+abbrev judged : tie.After-slice-known3 → tie.After-is-sound
+judged c = c .before .before
+
+shape : (c : tie.Else1) → badShape (lent (start c)) ≡ false
 shape c = sym (c .before .bad-shape .ensures) ∙ c .if1 .left
 
 bad-shape-requires : tie.Need-bad-shape-requires
@@ -39,9 +50,9 @@ is-sound-requires c κs = search needs
 
 collect-sound-requires : tie.Need-collect-sound-requires
 collect-sound-requires c κs =
-    let judged = c .before .before in
-    let q = judged .before .before .before .is-sound .ensures in
-    rw (q .1) (sym (q .0) ∙ judged .if2 .taken)
+    let sound = c .before .before in
+    let q = judged (sound .before) .is-sound .ensures in
+    rw (q .1) (sym (q .0) ∙ sound .if2 .taken)
 
 say-requires-2 : tie.Need-say-requires-2
 say-requires-2 c κs = search needs
@@ -55,11 +66,11 @@ same-length-2 c = search needs
 returns-2 : tie.Need-returns-2
 returns-2 c =
     let done = c .before .before .before .before .before .before in
-    let judged = done .before .before .before in
-    let asked = judged .before .before .before in
+    let sound = done .before .before .before in
+    let asked = judged (sound .before) in
     let q = asked .is-sound .ensures in
     said _ _ (c .say2 .ensures)
-    (rw (collect-live tuple _ (shape (asked .before .before .before)) (sym (q .0) ∙ judged .if2 .taken), ← (q .1))
+    (rw (collect-live tuple _ (shape (shaped asked)) (sym (q .0) ∙ sound .if2 .taken), ← (q .1))
     (done .collect-sound .ensures))
 
 say-requires-3 : tie.Need-say-requires-3
@@ -73,11 +84,11 @@ same-length-4 c = search needs
 
 returns-3 : tie.Need-returns-3
 returns-3 c =
-    let judged = c .before in
-    let asked = judged .before .before .before in
+    let unsound = c .before in
+    let asked = judged (unsound .before) in
     let q = asked .is-sound .ensures in
     said _ _ (c .say3 .ensures)
-    (rw (q .1) (sym (collect-damaged tuple _ (shape (asked .before .before .before)) (sym (q .0) ∙ judged .if2 .left))))
+    (rw (q .1) (sym (collect-damaged tuple _ (shape (shaped asked)) (sym (q .0) ∙ unsound .if2 .left))))
 
 pub collect-spec : {M : Type 1} → statement M
 collect-spec =

@@ -15,6 +15,17 @@ use Rattle.runs.proofs.clear.Reads as clear-reads
 use Rattle.words.proofs.tuple.Tuple.address_of.Reads as address-of-reads
 use Rattle.words.proofs.tuple.Tuple.header.Reads as header-reads
 
+-- where the call begins
+abbrev start : tie.After-header → tie.Start
+start c = c .before .before .before .before
+
+-- the header is made, and the words are cleared
+abbrev headed : tie.After-clear → tie.After-header
+headed c = c .before .before
+
+abbrev cleared : tie.After-address-of → tie.After-clear
+cleared c = c .before .before .before
+
 header-requires : tie.Need-header-requires
 header-requires c κs = search needs
 
@@ -28,7 +39,7 @@ add-clear : tie.Need-add-clear
 add-clear c = search needs
 
 clear-requires : tie.Need-clear-requires
-clear-requires c κs = simp length-set (omega (arith, c .before .before .before .before .before .pre .room))
+clear-requires c κs = simp length-set (omega (arith, start (c .before) .pre .room))
 
 address-of-requires : tie.Need-address-of-requires
 address-of-requires c κs = search needs
@@ -47,22 +58,20 @@ add-t18 c = search needs
 
 same-length : tie.Need-same-length
 same-length c =
-    let cleared = c .before .before .before in
-    let headed = cleared .before .before in
-    let s = headed .before .before .before .before in
-    ap length (cleared .clear .ensures) ∙ cleared-length _ _ _
-    ∙ length-set (s .args .heap .now) (s .args .«record» .free .0) (headed .header .result)
+    let made = headed (cleared c) in
+    let s = start made in
+    ap length (cleared c .clear .ensures) ∙ cleared-length _ _ _
+    ∙ length-set (s .args .heap .now) (s .args .«record» .free .0) (made .header .result)
 
 same-length-2 : tie.Need-same-length-2
 same-length-2 c = search needs
 
 returns : tie.Need-returns
 returns c =
-    let cleared = c .before .before .before in
-    let headed = cleared .before .before in
-    let s = headed .before .before .before .before in
+    let made = headed (cleared c) in
+    let s = start made in
     placed-by tuple (stateOf (s .args .heap .now) (s .args .roots .now) (s .args .«record»)) _ _ _ _ _ _
-    (headed .header .ensures) (cleared .clear .ensures) (c .address-of .ensures)
+    (made .header .ensures) (cleared c .clear .ensures) (c .address-of .ensures)
 
 pub place-spec : {M : Type 1} → statement M
 place-spec =

@@ -10,13 +10,17 @@ use Rattle.placing.proofs.at_once.allocate.Lts as lts
 use Rattle.placing.proofs.place.Reads as place-reads
 
 -- what the call was lent
-abbrev start : tie.Start → State
-start c = stateOf (c .args .heap .now) (c .args .roots .now) (c .args .«record»)
+abbrev lent : tie.Start → State
+lent c = stateOf (c .args .heap .now) (c .args .roots .now) (c .args .«record»)
+
+-- where the call begins
+abbrev start : tie.After-place-arg2 → tie.Start
+start c = c .before .before .before .before
 
 place-requires : tie.Need-place-requires
 place-requires c κs =
-    let s = c .before .before .before .before in
-    at-once-place tuple (s .args .kind) (s .args .fields) (s .args .to) (start s) (s .pre)
+    let s = start c in
+    at-once-place tuple (s .args .kind) (s .args .fields) (s .args .to) (lent s) (s .pre)
 
 same-length : tie.Need-same-length
 same-length c = search needs
@@ -26,9 +30,9 @@ same-length-2 c = search needs
 
 returns : tie.Need-returns
 returns c =
-    let s = c .before .before .before .before .before .before .before .before .before in
     let placed = c .before .before .before .before in
-    rw (at-once-done tuple (s .args .kind) (s .args .fields) (s .args .to) (start s) (s .pre), ← (placed .place .ensures))
+    let s = start (placed .before) in
+    rw (at-once-done tuple (s .args .kind) (s .args .fields) (s .args .to) (lent s) (s .pre), ← (placed .place .ensures))
 
 pub allocate-spec : {M : Type 1} → statement M
 allocate-spec = tie.close (tie.spec place-requires same-length same-length-2 returns)
