@@ -16,10 +16,21 @@ use Rattle.words.proofs.shape.bad_shape.Reads as bad-shape-reads
 use Rattle.model.proofs.say.Reads as say-reads
 
 -- what the call was lent
-abbrev start : tie.Start → State
-start c = stateOf (c .args .heap .now) (c .args .roots .now) (c .args .«record»)
+abbrev lent : tie.Start → State
+lent c = stateOf (c .args .heap .now) (c .args .roots .now) (c .args .«record»)
 
-shape : (c : tie.Else1) → badShape (start (c .before .before .before .before)) ≡ false
+-- where the call begins
+abbrev start : tie.Else1 → tie.Start
+start c = c .before .before .before .before
+
+-- past the test of SHAPE, and the heap is judged
+abbrev shaped : tie.After-is-sound → tie.Else1
+shaped c = c .before .before
+
+abbrev judged : tie.After-slice-known2 → tie.After-is-sound
+judged c = c .before .before
+
+shape : (c : tie.Else1) → badShape (lent (start c)) ≡ false
 shape c = sym (c .before .bad-shape .ensures) ∙ c .if1 .left
 
 bad-shape-requires : tie.Need-bad-shape-requires
@@ -44,11 +55,11 @@ same-length c = search needs
 
 returns-2 : tie.Need-returns-2
 returns-2 c =
-    let tested = c .before in
-    let asked = tested .before .before .before in
+    let answered = c .before in
+    let asked = judged (answered .before) in
     let k = asked .is-sound .ensures in
     said _ _ (c .say2 .ensures)
-    (check-sound tuple _ _ _ (shape (asked .before .before)) _ (k .1) (sym (tested .if2 .taken) ∙ k .0))
+    (check-sound tuple _ _ _ (shape (shaped asked)) _ (k .1) (sym (answered .if2 .taken) ∙ k .0))
 
 say-requires-3 : tie.Need-say-requires-3
 say-requires-3 c κs = search needs
@@ -58,11 +69,11 @@ same-length-2 c = search needs
 
 returns-3 : tie.Need-returns-3
 returns-3 c =
-    let tested = c .before in
-    let asked = tested .before .before .before in
+    let answered = c .before in
+    let asked = judged (answered .before) in
     let k = asked .is-sound .ensures in
     said _ _ (c .say3 .ensures)
-    (check-unsound tuple _ _ _ (shape (asked .before .before)) _ (k .1) (sym (tested .if2 .left) ∙ k .0))
+    (check-unsound tuple _ _ _ (shape (shaped asked)) _ (k .1) (sym (answered .if2 .left) ∙ k .0))
 
 pub check-spec : {M : Type 1} → statement M
 check-spec =

@@ -21,8 +21,10 @@ same-length c = search needs
 
 returns : tie.Need-returns
 returns c =
-    let m = c .before .before .before .before .before .before .mark-and-test .ensures in
-    (m .0, rw (m .1) at (c .before .before .clear .ensures))
+    let cleared = c .before .before in
+    let tested = cleared .before .before .before .before in
+    let m = tested .mark-and-test .ensures in
+    (m .0, rw (m .1) at (cleared .clear .ensures))
 
 pub is-used-part-sound-spec : {M : Type 1} → statement M
 is-used-part-sound-spec =

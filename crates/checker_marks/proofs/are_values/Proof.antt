@@ -24,6 +24,13 @@ Inv-loop slice from n heap part i₀ i =
 abbrev μ-loop : tie.MeasureT-loop
 μ-loop slice from n heap part i₀ i = n - i
 
+-- where the call begins, and where a turn does
+abbrev start : tie.At-loop Inv-loop μ-loop → tie.Start Inv-loop μ-loop
+start c = c .before .before .before
+
+abbrev turn : tie.After-is-value Inv-loop μ-loop → tie.At-loop Inv-loop μ-loop
+turn c = c .before .before .before
+
 loop-holds : tie.Need-loop-holds Inv-loop μ-loop
 loop-holds c = (omega arith, simp unary-clauses)
 
@@ -37,13 +44,12 @@ shared-slice-read-word : tie.Need-shared-slice-read-word Inv-loop μ-loop
 shared-slice-read-word c = omega arith
 
 is-value-requires : tie.Need-is-value-requires Inv-loop μ-loop
-is-value-requires c κs = c .before .before .before .before .before .pre .1
+is-value-requires c κs = start (c .before .before) .pre .1
 
 returns : tie.Need-returns Inv-loop μ-loop
 returns c =
-    let turn = c .before .before .before .before in
-    let l = turn .loop in
-    let a = turn .before .before .before .args in
+    let l = turn (c .before) .loop in
+    let a = start (turn (c .before)) .args in
     let q = isValueByMarks tuple (a .heap .now) (a .part) in
     let h = sym (c .before .is-value .ensures) ∙ not-true _ (c .if1 .taken) in
     sym (sym (l .inv .1) ∙ run-failed q (a .slice .now) (a .from) (a .n) (l .i) (omega arith) (omega arith) h)
@@ -56,9 +62,8 @@ loop-less c = omega arith
 
 loop-again : tie.Need-loop-again Inv-loop μ-loop
 loop-again c =
-    let turn = c .before .before .before .before in
-    let l = turn .loop in
-    let a = turn .before .before .before .args in
+    let l = turn (c .before) .loop in
+    let a = start (turn (c .before)) .args in
     let q = isValueByMarks tuple (a .heap .now) (a .part) in
     let h = sym (c .before .is-value .ensures) ∙ not-false _ (c .if1 .left) in (
       omega arith,
@@ -67,9 +72,8 @@ loop-again c =
 
 returns-2 : tie.Need-returns-2 Inv-loop μ-loop
 returns-2 c =
-    let turn = c .before in
-    let l = turn .loop in
-    let a = turn .before .before .before .args in
+    let l = c .before .loop in
+    let a = start (c .before) .args in
     let q = isValueByMarks tuple (a .heap .now) (a .part) in
     sym (sym (l .inv .1) ∙ run-ended q (a .slice .now) (a .from) (a .n) (l .i) (omega arith))
 

@@ -23,6 +23,13 @@ Inv-loop heap₀ first free marks at₀ heap at =
 abbrev μ-loop : tie.MeasureT-loop
 μ-loop heap₀ first free marks at₀ heap at = free - at
 
+-- where the call begins, and the turn that meets a word
+abbrev start : tie.At-loop Inv-loop μ-loop → tie.Start Inv-loop μ-loop
+start c = c .before .before
+
+abbrev more : tie.After-is-header Inv-loop μ-loop → tie.In-loop Inv-loop μ-loop
+more c = c .before .before
+
 loop-holds : tie.Need-loop-holds Inv-loop μ-loop
 loop-holds c = (refl, omega arith, refl)
 
@@ -36,15 +43,15 @@ is-header-requires : tie.Need-is-header-requires Inv-loop μ-loop
 is-header-requires c κs = tt
 
 same-length : tie.Need-same-length Inv-loop μ-loop
-same-length c = c .before .before .before .before .loop .inv .2
+same-length c = more (c .before) .before .loop .inv .2
 
 returns : tie.Need-returns Inv-loop μ-loop
 returns c =
-    let more = c .before .before .before in
-    let l = more .before .loop in
-    let p = more .before .before .before .args .part in
+    let met = more (c .before) in
+    let l = met .before .loop in
+    let p = start (met .before) .args .part in
     let h = sym (c .before .is-header .ensures) ∙ not-true _ (c .if1 .taken) in
-    sym (mark-stopped tuple p _ (l .heap) (l .at) (more .loop-test .taken) h) ∙ l .inv .0
+    sym (mark-stopped tuple p _ (l .heap) (l .at) (met .loop-test .taken) h) ∙ l .inv .0
 
 sub-heap : tie.Need-sub-heap Inv-loop μ-loop
 sub-heap c = omega arith
@@ -73,11 +80,11 @@ loop-less c = omega arith
 loop-again : tie.Need-loop-again Inv-loop μ-loop
 loop-again c =
     let headed = c .before in
-    let more = headed .before .before .before in
-    let l = more .before .loop in
-    let p = more .before .before .before .args .part in
+    let met = more (headed .before) in
+    let l = met .before .loop in
+    let p = start (met .before) .args .part in
     let h = sym (headed .before .is-header .ensures) ∙ not-false _ (headed .if1 .left) in (
-      mark-turn tuple p (l .heap) (l .at) (more .loop-test .taken) h _ (c .count-of .ensures .0) ∙ l .inv .0,
+      mark-turn tuple p (l .heap) (l .at) (met .loop-test .taken) h _ (c .count-of .ensures .0) ∙ l .inv .0,
       omega arith,
       simp length-set (l .inv .2),
     )
@@ -88,7 +95,7 @@ same-length-2 c = c .before .loop .inv .2
 returns-2 : tie.Need-returns-2 Inv-loop μ-loop
 returns-2 c =
     let turn = c .before in
-    sym (mark-ended tuple (turn .before .before .args .part) _ _ _ (c .loop-test .left)) ∙ turn .loop .inv .0
+    sym (mark-ended tuple (start turn .args .part) _ _ _ (c .loop-test .left)) ∙ turn .loop .inv .0
 
 pub mark-headers-spec : {M : Type 1} → statement M
 mark-headers-spec =
