@@ -14,10 +14,18 @@ use Rattle.words.proofs.shape.other_half.Reads as other-half-reads
 
 -- where both halves begin is known once `first_of` has answered twice
 abbrev halved : tie.After-first-of2 → tie.After-half-words
-halved there = there .before .before .before
+halved c = c .before .before .before
 
+-- where the call begins
 abbrev start : tie.After-half-words → tie.Start
-start halved = halved .before .before .before
+start c = c .before .before .before
+
+-- where both halves begin is known, and the heap is evacuated
+abbrev there : tie.After-evacuate-arg2 → tie.After-first-of2
+there c = c .before .before .before .before
+
+abbrev done : tie.After-struct-known4 → tie.After-evacuate
+done c = c .before .before .before .before .before .before
 
 half-words-requires : tie.Need-half-words-requires
 half-words-requires c κs =
@@ -39,33 +47,31 @@ first-of-requires-2 c κs =
 
 sub-used : tie.Need-sub-used
 sub-used c =
-    let there = c .before .before in
-    old-low _ (tuple-lawful .forwards) _ (start (halved there) .pre) _ _ _ _ (halved there .half-words .ensures)
-    (there .before .before .other-half .ensures) (there .before .first-of .ensures) (there .first-of2 .ensures)
+    let based = c .before .before in
+    old-low _ (tuple-lawful .forwards) _ (start (halved based) .pre) _ _ _ _ (halved based .half-words .ensures)
+    (based .before .before .other-half .ensures) (based .before .first-of .ensures) (based .first-of2 .ensures)
 
 evacuate-requires : tie.Need-evacuate-requires
 evacuate-requires c κs =
-    let there = c .before .before .before .before in
-    may-evacuate _ (tuple-lawful .forwards) _ (start (halved there) .pre) _ _ _ _ (halved there .half-words .ensures)
-    (there .before .before .other-half .ensures) (there .before .first-of .ensures) (there .first-of2 .ensures)
+    let based = there c in
+    may-evacuate _ (tuple-lawful .forwards) _ (start (halved based) .pre) _ _ _ _ (halved based .half-words .ensures)
+    (based .before .before .other-half .ensures) (based .before .first-of .ensures) (based .first-of2 .ensures)
 
 sub-live : tie.Need-sub-live
 sub-live c =
-    let done = c .before .before .before .before .before .before in
-    let there = done .before .before .before .before .before in
-    end-low _ (tuple-lawful .forwards) _ (start (halved there) .pre) _ _ _ _ (halved there .half-words .ensures)
-    (there .before .before .other-half .ensures) (there .before .first-of .ensures) (there .first-of2 .ensures)
-    _ _ _ (done .evacuate .ensures)
+    let based = there (done c .before) in
+    end-low _ (tuple-lawful .forwards) _ (start (halved based) .pre) _ _ _ _ (halved based .half-words .ensures)
+    (based .before .before .other-half .ensures) (based .before .first-of .ensures) (based .first-of2 .ensures)
+    _ _ _ (done c .evacuate .ensures)
 
 cast-live : tie.Need-cast-live
 cast-live c =
-    let done = c .before .before .before .before .before .before in
-    let there = done .before .before .before .before .before in
+    let based = there (done c .before) in
     omega (
       arith,
-      end-high _ (tuple-lawful .forwards) _ (start (halved there) .pre) _ _ _ _ (halved there .half-words .ensures)
-          (there .before .before .other-half .ensures) (there .before .first-of .ensures) (there .first-of2 .ensures)
-          _ _ _ (done .evacuate .ensures),
+      end-high _ (tuple-lawful .forwards) _ (start (halved based) .pre) _ _ _ _ (halved based .half-words .ensures)
+          (based .before .before .other-half .ensures) (based .before .first-of .ensures) (based .first-of2 .ensures)
+          _ _ _ (done c .evacuate .ensures),
     )
 
 same-length : tie.Need-same-length
@@ -76,11 +82,10 @@ same-length-2 c = search needs
 
 returns : tie.Need-returns
 returns c =
-    let done = c .before .before .before .before .before .before in
-    let there = done .before .before .before .before .before in
-    collect-is _ (tuple-lawful .forwards) _ (start (halved there) .pre) _ _ _ _ (halved there .half-words .ensures)
-    (there .before .before .other-half .ensures) (there .before .first-of .ensures) (there .first-of2 .ensures)
-    _ _ _ (done .evacuate .ensures)
+    let based = there (done c .before) in
+    collect-is _ (tuple-lawful .forwards) _ (start (halved based) .pre) _ _ _ _ (halved based .half-words .ensures)
+    (based .before .before .other-half .ensures) (based .before .first-of .ensures) (based .first-of2 .ensures)
+    _ _ _ (done c .evacuate .ensures)
 
 pub collect-sound-spec : {M : Type 1} → statement M
 collect-sound-spec =

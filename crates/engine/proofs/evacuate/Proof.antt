@@ -9,14 +9,17 @@ use Rattle.engine_scanning.proofs.pass_objects.Reads as pass-objects-reads
 use Rattle.engine.proofs.visit_roots.Reads as visit-roots-reads
 use Rattle.runs.proofs.clear.Reads as clear-reads
 
+-- the roots are visited
+abbrev visited : tie.After-pass-objects-arg → tie.After-visit-roots
+visited c = c .before .before .before .before .before
+
 visit-roots-requires : tie.Need-visit-roots-requires
 visit-roots-requires c κs = search needs
 
 pass-objects-requires : tie.Need-pass-objects-requires
 pass-objects-requires c κs =
-    let visited = c .before .before .before .before .before in
-    let s = visited .before .before .before .before .before in
-    scan-safe _ _ _ _ _ _ _ _ _ (visited .visit-roots .ensures) (s .pre)
+    let start = visited c .before .before .before .before .before in
+    scan-safe _ _ _ _ _ _ _ _ _ (visited c .visit-roots .ensures) (start .pre)
 
 clear-requires : tie.Need-clear-requires
 clear-requires c κs = search needs
@@ -31,8 +34,8 @@ returns : tie.Need-returns
 returns c =
     let cleared = c .before .before in
     let passed = cleared .before .before .before .before in
-    let visited = passed .before .before .before .before .before .before in
-    evacuated-is _ _ _ _ _ _ _ _ _ (visited .visit-roots .ensures) _ _ _ (passed .pass-objects .ensures) (cleared .clear .ensures)
+    evacuated-is _ _ _ _ _ _ _ _ _ (visited (passed .before) .visit-roots .ensures) _ _ _
+    (passed .pass-objects .ensures) (cleared .clear .ensures)
 
 pub evacuate-spec : {M : Type 1} → statement M
 evacuate-spec =

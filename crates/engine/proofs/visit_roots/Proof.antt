@@ -14,11 +14,16 @@ use Rattle.engine_moving.proofs.rename.Reads as rename-reads
 
 abbrev Inv-loop : tie.InvT-loop
 Inv-loop heap₀ roots₀ free₀ i₀ heap roots free i =
-    (i ≤ length roots) × (joined (take i roots) (rooted tuple heap (drop i roots) (free .0)) ≡ rooted tuple heap₀ roots₀ (free₀ .0))
+    (i ≤ length roots)
+    × (joined (take i roots) (rooted tuple heap (drop i roots) (free .0)) ≡ rooted tuple heap₀ roots₀ (free₀ .0))
     × SafeRoots tuple heap (drop i roots) (free .0) × (length heap ≡ length heap₀) × (length roots ≡ length roots₀)
 
 abbrev μ-loop : tie.MeasureT-loop
 μ-loop heap₀ roots₀ free₀ i₀ heap roots free i = length roots - i
+
+-- the turn that renames a root
+abbrev turn : tie.After-rename-arg Inv-loop μ-loop → tie.In-loop Inv-loop μ-loop
+turn c = c .before .before
 
 loop-holds : tie.Need-loop-holds Inv-loop μ-loop
 loop-holds c = (omega arith, refl, c .before .before .pre, refl, refl)
@@ -31,8 +36,8 @@ slice-read-word c = omega arith
 
 rename-requires : tie.Need-rename-requires Inv-loop μ-loop
 rename-requires c κs =
-    let l = c .before .before .before .loop in
-    root-may _ _ (l .roots) _ (l .i) (omega (arith, c .before .before .loop-test)) (l .inv .2)
+    let l = turn c .before .loop in
+    root-may _ _ (l .roots) _ (l .i) (omega (arith, turn c .loop-test)) (l .inv .2)
 
 mul-roots : tie.Need-mul-roots Inv-loop μ-loop
 mul-roots c = omega arith
@@ -48,9 +53,10 @@ loop-less c = simp length-set (omega arith)
 
 loop-again : tie.Need-loop-again Inv-loop μ-loop
 loop-again c =
-    let l = c .before .before .before .before .before .before .before .loop in
-    let m : l .i < length (l .roots) = omega (arith, c .before .before .before .before .before .before .loop-test) in
-    let e = c .before .before .before .rename .ensures in (
+    let renamed = c .before .before .before in
+    let l = turn (renamed .before) .before .loop in
+    let m : l .i < length (l .roots) = omega (arith, turn (renamed .before) .loop-test) in
+    let e = renamed .rename .ensures in (
       simp length-set (omega arith),
       root-turn _ _ _ _ _ m (l .inv .2) _ e ∙ l .inv .1,
       root-safe _ _ _ _ _ m (l .inv .2) _ e,

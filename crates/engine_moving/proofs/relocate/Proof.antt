@@ -16,6 +16,19 @@ use Rattle.words.proofs.tuple.Tuple.is_header.Reads as is-header-reads
 use Rattle.words.proofs.tuple.Tuple.mark.Reads as mark-reads
 use Rattle.words.proofs.tuple.Tuple.unmark.Reads as unmark-reads
 
+-- where the call begins; the word is a header, its fields are counted, and the object is copied
+abbrev start : tie.After-is-header → tie.Start
+start c = c .before .before .before
+
+abbrev headed : tie.After-count-of → tie.Then1
+headed c = c .before
+
+abbrev counted : tie.After-copy-arg → tie.After-count-of
+counted c = c .before
+
+abbrev copied : tie.After-mark → tie.After-copy
+copied c = c .before .before .before .before
+
 mul-header : tie.Need-mul-header
 mul-header c = search needs
 
@@ -33,10 +46,8 @@ mul-heap c = search needs
 
 slice-write-heap : tie.Need-slice-write-heap
 slice-write-heap c =
-    let headed = c .before in
-    let tested = headed .before in
-    let s = tested .before .before .before in
-    omega (arith, s .pre .fits (sym (tested .is-header .ensures) ∙ headed .if1 .taken))
+    let tested = headed c .before in
+    omega (arith, start tested .pre .fits (sym (tested .is-header .ensures) ∙ headed c .if1 .taken))
 
 add-copy : tie.Need-add-copy
 add-copy c = search needs
@@ -46,12 +57,10 @@ add-copy-2 c = search needs
 
 copy-requires : tie.Need-copy-requires
 copy-requires c κs =
-    let counted = c .before in
-    let headed = counted .before in
-    let tested = headed .before in
-    let s = tested .before .before .before in
-    let head = sym (tested .is-header .ensures) ∙ headed .if1 .taken in
-    simp length-set (omega (arith, s .pre .whole head, s .pre .fits head, counted .count-of .ensures .0))
+    let met = headed (counted c) in
+    let p = start (met .before) .pre in
+    let head = sym (met .before .is-header .ensures) ∙ met .if1 .taken in
+    simp length-set (omega (arith, p .whole head, p .fits head, counted c .count-of .ensures .0))
 
 address-of-requires : tie.Need-address-of-requires
 address-of-requires c κs = search needs
@@ -73,20 +82,17 @@ add-end-2 c = search needs
 
 same-length : tie.Need-same-length
 same-length c =
-    let copied = c .before .before .before .before in
-    let s = copied .before .before .before .before .before .before .before in
-    copied-same tuple (s .args .heap .now) (s .args .object .0) (s .args .free .0) _ _ _ _ (copied .copy .ensures)
+    let a = start (headed (counted (copied c .before)) .before) .args in
+    copied-same tuple (a .heap .now) (a .object .0) (a .free .0) _ _ _ _ (copied c .copy .ensures)
 
 returns : tie.Need-returns
 returns c =
-    let copied = c .before .before .before .before in
-    let counted = copied .before .before in
-    let headed = counted .before in
-    let tested = headed .before in
-    let s = tested .before .before .before in
-    copied-is tuple (s .args .heap .now) (s .args .object .0) (s .args .free .0) _ _ _ _
-    (sym (tested .is-header .ensures) ∙ headed .if1 .taken)
-    (counted .count-of .ensures .0) (copied .copy .ensures) (c .before .address-of .ensures) (omega (arith, c .mark .ensures))
+    let n = counted (copied c .before) in
+    let tested = headed n .before in
+    let a = start tested .args in
+    copied-is tuple (a .heap .now) (a .object .0) (a .free .0) _ _ _ _
+    (sym (tested .is-header .ensures) ∙ headed n .if1 .taken)
+    (n .count-of .ensures .0) (copied c .copy .ensures) (c .before .address-of .ensures) (omega (arith, c .mark .ensures))
 
 unmark-requires : tie.Need-unmark-requires
 unmark-requires c κs = sym (c .before .is-header .ensures) ∙ c .if1 .left

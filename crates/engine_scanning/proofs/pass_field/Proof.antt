@@ -7,6 +7,10 @@ use Rattle.engine_scanning.proofs.pass_field.Reads as reads
 use Rattle.engine_scanning.proofs.pass_field.Lts as lts
 use Rattle.engine_moving.proofs.rename.Reads as rename-reads
 
+-- the word is renamed
+abbrev renamed : tie.After-free → tie.After-rename
+renamed c = c .before .before .before
+
 mul-word : tie.Need-mul-word
 mul-word c = search needs
 
@@ -23,7 +27,7 @@ same-length : tie.Need-same-length
 same-length c = search needs
 
 returns : tie.Need-returns
-returns c = field-plain _ _ _ _ _ (c .before .before .before .before .before .rename .ensures) (c .enum-told .given .1)
+returns c = field-plain _ _ _ _ _ (renamed (c .before .before) .rename .ensures) (c .enum-told .given .1)
 
 mul-heap : tie.Need-mul-heap
 mul-heap c = search needs
@@ -35,7 +39,7 @@ same-length-2 : tie.Need-same-length-2
 same-length-2 c = search needs
 
 returns-2 : tie.Need-returns-2
-returns-2 c = field-stored _ _ _ _ _ (c .before .before .before .before .rename .ensures)
+returns-2 c = field-stored _ _ _ _ _ (renamed (c .before) .rename .ensures)
 
 pub pass-field-spec : {M : Type 1} → statement M
 pass-field-spec =

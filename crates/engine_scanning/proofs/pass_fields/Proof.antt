@@ -45,9 +45,11 @@ loop-less c = omega arith
 
 loop-again : tie.Need-loop-again Inv-loop μ-loop
 loop-again c =
-    let l = c .before .before .before .before .before .loop in
-    let m = c .before .before .before .before .loop-test .taken in
-    let e = c .before .before .pass-field .ensures in
+    let passed = c .before .before in
+    let turn = passed .before .before in
+    let l = turn .before .loop in
+    let m = turn .loop-test .taken in
+    let e = passed .pass-field .ensures in
     let k = field-keeps _ _ _ _ _ m (l .inv .1) (l .inv .3) _ _ e in (
       omega arith,
       omega (arith, k .grows),

@@ -12,6 +12,16 @@ use Rattle.engine_scanning.proofs.size_of.Reads as size-of-reads
 use Rattle.words.proofs.tuple.Tuple.count_of.Reads as count-of-reads
 use Rattle.words.proofs.tuple.Tuple.is_traced.Reads as is-traced-reads
 
+-- where the call begins; the fields are counted, the object's words too, and its kind is tested
+abbrev start : tie.After-count-of → tie.Start
+start c = c .before .before .before
+
+abbrev counted : tie.After-size-of → tie.After-count-of
+counted c = c .before
+
+abbrev sized : tie.After-is-traced → tie.After-size-of
+sized c = c .before
+
 mul-header : tie.Need-mul-header
 mul-header c = omega (arith, object-within _ _ _ _ (c .before .pre))
 
@@ -29,8 +39,12 @@ size-of-requires c κs = search needs
 
 add-next : tie.Need-add-next
 add-next c =
-    let counted = c .before in
-    omega (arith, object-within _ _ _ _ (counted .before .before .before .pre), counted .count-of .ensures, c .size-of .ensures)
+    omega (
+      arith,
+      object-within _ _ _ _ (start (counted c) .pre),
+      counted c .count-of .ensures,
+      c .size-of .ensures,
+    )
 
 is-traced-requires : tie.Need-is-traced-requires
 is-traced-requires c κs = search needs
@@ -38,8 +52,8 @@ is-traced-requires c κs = search needs
 pass-fields-requires : tie.Need-pass-fields-requires
 pass-fields-requires c κs =
     let tested = c .before .before in
-    let counted = tested .before .before in
-    fields-may _ _ _ _ (counted .before .before .before .pre) _ (counted .count-of .ensures .0)
+    let n = counted (sized tested) in
+    fields-may _ _ _ _ (start n .pre) _ (n .count-of .ensures .0)
     (sym (tested .is-traced .ensures) ∙ c .before .if1 .taken)
 
 same-length : tie.Need-same-length
@@ -49,19 +63,17 @@ returns : tie.Need-returns
 returns c =
     let traced = c .before .before .before .before in
     let tested = traced .before in
-    let sized = tested .before in
-    let counted = sized .before in
-    traced-is _ _ _ _ (counted .before .before .before .pre) _ (counted .count-of .ensures .0)
+    let n = counted (sized tested) in
+    traced-is _ _ _ _ (start n .pre) _ (n .count-of .ensures .0)
     (sym (tested .is-traced .ensures) ∙ traced .if1 .taken) _ _ _ (c .before .before .pass-fields .ensures)
-    (omega (arith, sized .size-of .ensures, counted .count-of .ensures .0))
+    (omega (arith, sized tested .size-of .ensures, n .count-of .ensures .0))
 
 returns-2 : tie.Need-returns-2
 returns-2 c =
     let tested = c .before in
-    let sized = tested .before in
-    let counted = sized .before in
-    untraced-is _ _ _ _ (counted .before .before .before .pre) (sym (tested .is-traced .ensures) ∙ c .if1 .left)
-    _ (omega (arith, sized .size-of .ensures, counted .count-of .ensures .0))
+    let n = counted (sized tested) in
+    untraced-is _ _ _ _ (start n .pre) (sym (tested .is-traced .ensures) ∙ c .if1 .left)
+    _ (omega (arith, sized tested .size-of .ensures, n .count-of .ensures .0))
 
 pub pass-object-spec : {M : Type 1} → statement M
 pass-object-spec =
