@@ -11,7 +11,9 @@ use Rattle.crossing.proofs.window_of.Lts as lts
 use Rattle.numbers.proofs.number.Reads as number-reads
 
 below : (c : tie.After-struct-known) → Narrow (c .before .before .place .given .0 .0 .0 + 1)
-below c = rw (c .before .before .place .given .1) at (c .before .before .before .before .pre)
+below c =
+    let start = c .before .before .before .before in
+    rw (c .before .before .place .given .1) at (start .pre)
 
 enum-known-place : tie.Need-enum-known-place
 enum-known-place c = search needs
@@ -32,7 +34,9 @@ returns : tie.Need-returns
 returns c = rw (c .before .before .place .given .1)
 
 returns-2 : tie.Need-returns-2
-returns-2 c = rw (c .before .before .place2 .given .1) (ap (λ k. record { refusal = k; first = 0; count = 0 }) (c .number .ensures))
+returns-2 c =
+    rw (c .before .before .place2 .given .1)
+    (ap (λ k. record { refusal = k; first = 0; count = 0 }) (c .number .ensures))
 
 pub window-of-spec : {M : Type 1} → statement M
 window-of-spec =

@@ -11,6 +11,13 @@ use Rattle.crossing.proofs.word_at.Reads as reads
 use Rattle.crossing.proofs.word_at.Lts as lts
 use Rattle.crossing.proofs.answer_of.Reads as answer-of-reads
 
+-- where the call begins; the field is one of the window's
+abbrev start : tie.After-struct-known → tie.Start
+start c = c .before .before
+
+abbrev below : tie.After-struct-known2 → tie.Else1
+below c = c .before
+
 cast-count : tie.Need-cast-count
 cast-count c = search needs
 
@@ -20,7 +27,7 @@ answer-of-requires c κs = search needs
 returns : tie.Need-returns
 unfolding wordAt
 returns c =
-    let a = c .before .before .before .before .args in
+    let a = start (c .before .before) .args in
     rw (le-leb (a .window .count) (a .field) (omega (arith, c .before .if1 .taken))) (c .answer-of .ensures)
 
 cast-at : tie.Need-cast-at
@@ -36,10 +43,10 @@ returns-2 : tie.Need-returns-2
 unfolding wordAt
 returns-2 c =
     let past = c .before in
-    let below = past .before .before in
-    let a = below .before .before .before .args in
+    let known = below (past .before) in
+    let a = start (known .before) .args in
     rw (
-      lt-leb (a .window .count) (a .field) (omega (arith, below .if1 .left)),
+      lt-leb (a .window .count) (a .field) (omega (arith, known .if1 .left)),
       le-leb (length (a .heap .now)) (a .window .first + a .field) (omega (arith, past .if2 .taken)),
     )
     (c .answer-of2 .ensures)
@@ -57,10 +64,10 @@ returns-3 : tie.Need-returns-3
 unfolding wordAt
 returns-3 c =
     let within = c .before .before in
-    let below = within .before .before in
-    let a = below .before .before .before .args in
+    let known = below (within .before) in
+    let a = start (known .before) .args in
     rw (
-      lt-leb (a .window .count) (a .field) (omega (arith, below .if1 .left)),
+      lt-leb (a .window .count) (a .field) (omega (arith, known .if1 .left)),
       lt-leb (length (a .heap .now)) (a .window .first + a .field) (omega (arith, within .if2 .left)),
     )
     (c .answer-of3 .ensures)

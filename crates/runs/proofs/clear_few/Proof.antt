@@ -10,6 +10,10 @@ use Rattle.runs.proofs.clear_few.Tie as tie
 use Rattle.runs.proofs.clear_few.Reads as reads
 use Rattle.runs.proofs.clear_few.Lts as lts
 
+-- where the call begins
+abbrev start : tie.Else3 → tie.Start
+start c = c .before .before .before
+
 returns : tie.Need-returns
 unfolding cleared
 returns c = let e : c .before .args .n ≡ 0 = omega arith in rw e
@@ -57,7 +61,7 @@ same-length-3 c = search needs
 
 returns-4 : tie.Need-returns-4
 unfolding cleared
-returns-4 c = let e : c .before .before .before .before .args .n ≡ 3 = omega arith in simp (e, add-zero)
+returns-4 c = let e : start (c .before) .args .n ≡ 3 = omega arith in simp (e, add-zero)
 
 add-heap-3 : tie.Need-add-heap-3
 add-heap-3 c = search needs
@@ -73,7 +77,7 @@ same-length-4 c = search needs
 
 returns-5 : tie.Need-returns-5
 unfolding cleared
-returns-5 c = let e : c .before .before .before .before .args .n ≡ 4 = omega arith in simp (e, add-zero)
+returns-5 c = let e : start (c .before) .args .n ≡ 4 = omega arith in simp (e, add-zero)
 
 pub clear-few-spec : {M : Type 1} → statement M
 clear-few-spec =

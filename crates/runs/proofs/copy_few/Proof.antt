@@ -10,6 +10,13 @@ use Rattle.runs.proofs.copy_few.Tie as tie
 use Rattle.runs.proofs.copy_few.Reads as reads
 use Rattle.runs.proofs.copy_few.Lts as lts
 
+-- where the call begins, and where the second word is read
+abbrev start : tie.After-slice-known2 → tie.Start
+start c = c .before .before .before .before
+
+abbrev second : tie.After-slice-known3 → tie.After-slice-known2
+second c = c .before .before
+
 returns : tie.Need-returns
 unfolding copiedRun
 returns c = let e : c .before .args .n ≡ 0 = omega arith in rw e
@@ -56,7 +63,7 @@ same-length-2 c = search needs
 
 returns-3 : tie.Need-returns-3
 unfolding copiedRun
-returns-3 c = let e : c .before .before .before .before .before .args .n ≡ 2 = omega arith in simp (e, add-zero)
+returns-3 c = let e : start (c .before) .args .n ≡ 2 = omega arith in simp (e, add-zero)
 
 add-heap-3 : tie.Need-add-heap-3
 add-heap-3 c = search needs
@@ -81,7 +88,7 @@ same-length-3 c = search needs
 
 returns-4 : tie.Need-returns-4
 unfolding copiedRun
-returns-4 c = let e : c .before .before .before .before .before .before .before .args .n ≡ 3 = omega arith in simp (e, add-zero)
+returns-4 c = let e : start (second (c .before)) .args .n ≡ 3 = omega arith in simp (e, add-zero)
 
 add-heap-5 : tie.Need-add-heap-5
 add-heap-5 c = search needs
@@ -106,7 +113,7 @@ same-length-4 c = search needs
 
 returns-5 : tie.Need-returns-5
 unfolding copiedRun
-returns-5 c = let e : c .before .before .before .before .before .before .before .before .args .n ≡ 4 = omega arith in simp (e, add-zero)
+returns-5 c = let e : start (second (c .before .before)) .args .n ≡ 4 = omega arith in simp (e, add-zero)
 
 pub copy-few-spec : {M : Type 1} → statement M
 copy-few-spec =

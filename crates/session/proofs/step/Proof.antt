@@ -126,7 +126,8 @@ returns-3 : tie.Need-returns-3
 unfolding step
 returns-3 c =
     let called = c .before .before .before .before in
-    rw (called .before .before .before .before .call .given .1) (called .allocate .ensures)
+    let asked = called .before .before .before .before in
+    rw (asked .call .given .1) (called .allocate .ensures)
 
 same-length-7 : tie.Need-same-length-7
 same-length-7 c = search needs
@@ -139,7 +140,8 @@ unfolding step
 returns-4 c =
     let called = c .before .before in
     let asked = called .before .before .before .before in
-    let v = toZ-ofZ w64 (asked .call2 .given .0 .1 .0) (record { sfits = called .before .before .before .known-told2 .given .1 .0 .1 }) in
+    let told = called .before .before .before .known-told2 .given .1 .0 .1 in
+    let v = toZ-ofZ w64 (asked .call2 .given .0 .1 .0) (record { sfits = told }) in
     rw (asked .call2 .given .1) (rw v at (called .set-integer .ensures))
 
 same-length-9 : tie.Need-same-length-9
@@ -152,7 +154,8 @@ returns-5 : tie.Need-returns-5
 unfolding step
 returns-5 c =
     let called = c .before .before in
-    rw (called .before .before .before .before .call3 .given .1) (called .set-null .ensures)
+    let asked = called .before .before .before .before in
+    rw (asked .call3 .given .1) (called .set-null .ensures)
 
 same-length-11 : tie.Need-same-length-11
 same-length-11 c = search needs
@@ -164,7 +167,8 @@ returns-6 : tie.Need-returns-6
 unfolding step
 returns-6 c =
     let called = c .before .before in
-    rw (called .before .before .before .before .call4 .given .1) (called .copy .ensures)
+    let asked = called .before .before .before .before in
+    rw (asked .call4 .given .1) (called .copy .ensures)
 
 same-length-13 : tie.Need-same-length-13
 same-length-13 c = search needs
@@ -176,7 +180,8 @@ returns-7 : tie.Need-returns-7
 unfolding step
 returns-7 c =
     let called = c .before .before in
-    rw (called .before .before .before .before .call5 .given .1) (called .load .ensures)
+    let asked = called .before .before .before .before in
+    rw (asked .call5 .given .1) (called .load .ensures)
 
 same-length-15 : tie.Need-same-length-15
 same-length-15 c = search needs
@@ -188,7 +193,8 @@ returns-8 : tie.Need-returns-8
 unfolding step
 returns-8 c =
     let called = c .before .before in
-    rw (called .before .before .before .before .call6 .given .1) (called .store .ensures)
+    let asked = called .before .before .before .before in
+    rw (asked .call6 .given .1) (called .store .ensures)
 
 same-length-17 : tie.Need-same-length-17
 same-length-17 c = search needs
@@ -198,7 +204,9 @@ same-length-18 c = search needs
 
 returns-9 : tie.Need-returns-9
 unfolding step
-returns-9 c = rw (c .before .before .before .before .call7 .given .1) (c .raw-read .ensures)
+returns-9 c =
+    let asked = c .before .before .before .before in
+    rw (asked .call7 .given .1) (c .raw-read .ensures)
 
 same-length-19 : tie.Need-same-length-19
 same-length-19 c = search needs
@@ -210,7 +218,8 @@ returns-10 : tie.Need-returns-10
 unfolding step
 returns-10 c =
     let called = c .before .before in
-    rw (called .before .before .before .before .call8 .given .1) (called .raw-write .ensures)
+    let asked = called .before .before .before .before in
+    rw (asked .call8 .given .1) (called .raw-write .ensures)
 
 same-length-21 : tie.Need-same-length-21
 same-length-21 c = search needs
@@ -220,7 +229,9 @@ same-length-22 c = search needs
 
 returns-11 : tie.Need-returns-11
 unfolding step
-returns-11 c = rw (c .before .before .before .before .call9 .given .1) (c .same .ensures)
+returns-11 c =
+    let asked = c .before .before .before .before in
+    rw (asked .call9 .given .1) (c .same .ensures)
 
 same-length-23 : tie.Need-same-length-23
 same-length-23 c = search needs
@@ -230,7 +241,9 @@ same-length-24 c = search needs
 
 returns-12 : tie.Need-returns-12
 unfolding step
-returns-12 c = rw (c .before .before .before .before .call10 .given .1) (c .inspect .ensures)
+returns-12 c =
+    let asked = c .before .before .before .before in
+    rw (asked .call10 .given .1) (c .inspect .ensures)
 
 pub step-spec : {M : Type 1} → statement M
 step-spec =

@@ -6,6 +6,10 @@ use Rattle.model.proofs.Laws.{word-from-count, word-past-end, word-itself, word
 use Rattle.window.proofs.word_at.Statement.{statement}
 use Rattle.window.proofs.word_at.Tie as tie
 
+-- the window has a place
+abbrev there : tie.Else1 → tie.After-place
+there c = c .before .before
+
 enum-known-place : tie.Need-enum-known-place
 enum-known-place c = search needs
 
@@ -17,7 +21,7 @@ returns c = rw (c .before .before .place .given .1) (sym (word-from-count _ _ _ 
 
 returns-2 : tie.Need-returns-2
 returns-2 c =
-    rw (c .before .before .before .place .given .1) (sym (word-past-end _ _ _ _ (omega (arith, c .if2 .taken))))
+    rw (there (c .before) .place .given .1) (sym (word-past-end _ _ _ _ (omega (arith, c .if2 .taken))))
 
 sub-if3 : tie.Need-sub-if3
 sub-if3 c = search needs
@@ -27,7 +31,7 @@ sub-if3-2 c = search needs
 
 returns-3 : tie.Need-returns-3
 returns-3 c =
-    rw (c .before .before .before .before .place .given .1)
+    rw (there (c .before .before) .place .given .1)
     (sym (word-past-end _ _ _ _ (omega (arith, c .before .if2 .left, c .if3 .taken))))
 
 add-word : tie.Need-add-word
@@ -48,9 +52,9 @@ enum-told c = search needs
 returns-4 : tie.Need-returns-4
 returns-4 c =
     let below = c .before .before .before in
-    rw (below .before .before .place .given .1)
-    (sym (word-itself _ _ _ _ (omega (arith, below .if1 .left)) (omega (arith, c .before .before .if2 .left, c .before .if3 .left))
-    _ (omega arith)))
+    rw (there below .place .given .1)
+    (sym (word-itself _ _ _ _ (omega (arith, below .if1 .left))
+    (omega (arith, c .before .before .if2 .left, c .before .if3 .left)) _ (omega arith)))
 
 returns-5 : tie.Need-returns-5
 returns-5 c = rw (c .enum-told .given .1) (sym (word-hidden _ _ _))

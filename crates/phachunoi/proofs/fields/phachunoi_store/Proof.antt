@@ -13,6 +13,16 @@ use Rattle.objects.proofs.store.Reads as store-reads
 use Rattle.crossing.proofs.record_of.Reads as record-of-reads
 use Rattle.crossing.proofs.result_of.Reads as result-of-reads
 
+-- where the call begins; the record is taken, and the call is made
+abbrev start : tie.After-record-of → tie.Start
+start c = c .before .before .before .before
+
+abbrev crossed : tie.After-store → tie.After-record-of
+crossed c = c .before
+
+abbrev called : tie.After-slice-known2 → tie.After-store
+called c = c .before .before
+
 record-of-requires : tie.Need-record-of-requires
 record-of-requires c κs = search needs
 
@@ -25,21 +35,19 @@ same-length c = search needs
 returns : tie.Need-returns
 unfolding step
 returns c =
-    let called = c .before .before .before in
-    let crossed = called .before in
-    let a = crossed .before .before .before .before .args in
+    let made = called (c .before) in
+    let a = start (crossed made) .args in
     crosses resultOf (a .«record») (a .heap .now) (a .roots .now) (Ask.Store (a .object) (a .field) (a .from))
-    (crossed .record-of .ensures) (called .store .ensures) (c .result-of .ensures)
+    (crossed made .record-of .ensures) (made .store .ensures) (c .result-of .ensures)
 
 result-of-requires : tie.Need-result-of-requires
 unfolding step
 result-of-requires c κs =
-    let called = c .before .before in
-    let crossed = called .before in
-    let start = crossed .before .before .before .before in
-    let a = start .args in
+    let made = called c in
+    let s = start (crossed made) in
+    let a = s .args in
     narrow (a .«record») (a .heap .now) (a .roots .now) (Ask.Store (a .object) (a .field) (a .from))
-    (crossed .record-of .ensures) (called .store .ensures) (omega (arith, start .good))
+    (crossed made .record-of .ensures) (made .store .ensures) (omega (arith, s .good))
 
 pub phachunoi-store-spec : {M : Type 1} → statement M
 phachunoi-store-spec =

@@ -1,4 +1,4 @@
--- `phachunoi::heap::phachunoi_allocate_traced` meets its contract: its numbers cross to the call and back, whichever way it takes.
+-- `phachunoi::heap::phachunoi_allocate_traced` meets its contract: its numbers cross to the call and back, either way.
 use native.Mathlib.Omega.{arith}
 use mathlib.Core.Path.{_≡_, _∙_, sym}
 use mathlib.Core.Bool.{true}
@@ -18,6 +18,13 @@ use Rattle.allocator.proofs.allocate.Reads as allocate-reads
 use Rattle.placing.proofs.at_once.allocate.Reads as at-once-reads
 use Rattle.placing.proofs.at_once.fits.Reads as fits-reads
 
+-- where the call begins; the record is taken, and the object is tested to fit
+abbrev start : tie.After-record-of → tie.Start
+start c = c .before .before .before
+
+abbrev crossed : tie.After-fits2 → tie.After-record-of
+crossed c = c .before
+
 record-of-requires : tie.Need-record-of-requires
 record-of-requires c κs = search needs
 
@@ -26,10 +33,16 @@ fits-requires c κs = search needs
 
 -- ---- at once
 
--- past its test, the object fits
-fitted : (c : tie.Then1) → let s = c .before .before .before .before .before in
-    atOnce (length (s .args .heap .now)) (length (s .args .roots .now)) (c .before .before .record-of .result)
-    (s .args .fields) (s .args .to) ≡ true
+-- past its test the object fits, and is placed
+abbrev fitting : tie.After-allocate → tie.Then1
+fitting c = c .before .before .before
+
+abbrev placed : tie.After-slice-known4 → tie.After-allocate
+placed c = c .before .before .before .before
+
+fitted : (c : tie.Then1) → let a = start (crossed (c .before)) .args in
+    atOnce (length (a .heap .now)) (length (a .roots .now)) (crossed (c .before) .record-of .result)
+    (a .fields) (a .to) ≡ true
 fitted c = sym (c .before .fits2 .ensures) ∙ c .if1 .taken
 
 allocate-requires : tie.Need-allocate-requires
@@ -37,12 +50,11 @@ allocate-requires c κs = fitted (c .before .before)
 
 done-with-requires : tie.Need-done-with-requires
 done-with-requires c κs =
-    let placed = c .before .before .before .before in
-    let fitting = placed .before .before .before in
-    let crossed = fitting .before .before in
-    let s = crossed .before .before .before in
+    let fits = fitting (placed c) in
+    let taken = crossed (fits .before) in
+    let s = start taken in
     at-once-narrow Traced (s .args .«record») _ _ _ _
-    (crossed .record-of .ensures) (fitted fitting) (placed .allocate .ensures) (omega (arith, s .good))
+    (taken .record-of .ensures) (fitted fits) (placed c .allocate .ensures) (omega (arith, s .good))
 
 same-length : tie.Need-same-length
 same-length c = search needs
@@ -52,14 +64,21 @@ same-length-2 c = search needs
 
 returns : tie.Need-returns
 returns c =
-    let placed = c .before .before .before .before .before in
-    let fitting = placed .before .before .before in
-    let crossed = fitting .before .before in
-    let a = crossed .before .before .before .args in
+    let done = placed (c .before) in
+    let fits = fitting done in
+    let taken = crossed (fits .before) in
+    let a = start taken .args in
     at-once-crosses Traced (a .«record») _ _ _ _
-    (crossed .record-of .ensures) (fitted fitting) (placed .allocate .ensures) (c .done-with .ensures)
+    (taken .record-of .ensures) (fitted fits) (done .allocate .ensures) (c .done-with .ensures)
 
 -- ---- by the whole call
+
+-- the record is taken again after the test, and the call is made
+abbrev tested : tie.After-record-of2 → tie.After-fits2
+tested c = c .before .before .before .before
+
+abbrev called : tie.After-slice-known6 → tie.After-allocate2
+called c = c .before .before .before .before
 
 record-of-requires-2 : tie.Need-record-of-requires-2
 record-of-requires-2 c κs = search needs
@@ -69,10 +88,10 @@ allocate-requires-2 c κs = search needs
 
 result-of-requires : tie.Need-result-of-requires
 result-of-requires c κs =
-    let called = c .before .before .before .before in
-    let crossed = called .before in
-    let s = crossed .before .before .before .before .before .before .before .before in
-    whole-narrow Traced (s .args .«record») _ _ _ _ (crossed .record-of2 .ensures) (called .allocate2 .ensures) (omega (arith, s .good))
+    let again = called c .before in
+    let s = start (crossed (tested again)) in
+    whole-narrow Traced (s .args .«record») _ _ _ _
+    (again .record-of2 .ensures) (called c .allocate2 .ensures) (omega (arith, s .good))
 
 same-length-3 : tie.Need-same-length-3
 same-length-3 c = search needs
@@ -82,10 +101,11 @@ same-length-4 c = search needs
 
 returns-2 : tie.Need-returns-2
 returns-2 c =
-    let called = c .before .before .before .before .before in
-    let crossed = called .before in
-    let a = crossed .before .before .before .before .before .before .before .before .args in
-    whole-crosses Traced (a .«record») _ _ _ _ (crossed .record-of2 .ensures) (called .allocate2 .ensures) (c .result-of .ensures)
+    let made = called (c .before) in
+    let again = made .before in
+    let a = start (crossed (tested again)) .args in
+    whole-crosses Traced (a .«record») _ _ _ _
+    (again .record-of2 .ensures) (made .allocate2 .ensures) (c .result-of .ensures)
 
 pub phachunoi-allocate-traced-spec : {M : Type 1} → statement M
 phachunoi-allocate-traced-spec =

@@ -13,6 +13,16 @@ use Rattle.crossing.proofs.collected_of.Reads as collected-of-reads
 use Rattle.crossing.proofs.record_of.Reads as record-of-reads
 use Rattle.collector.proofs.collect.Reads as collect-reads
 
+-- where the call begins; the record is taken, and the call is made
+abbrev start : tie.After-record-of → tie.Start
+start c = c .before .before .before .before .before
+
+abbrev crossed : tie.After-collect → tie.After-record-of
+crossed c = c .before
+
+abbrev called : tie.After-slice-known4 → tie.After-collect
+called c = c .before .before .before .before
+
 record-of-requires : tie.Need-record-of-requires
 record-of-requires c κs = search needs
 
@@ -28,21 +38,19 @@ same-length-2 c = search needs
 returns : tie.Need-returns
 unfolding step
 returns c =
-    let called = c .before .before .before .before .before in
-    let crossed = called .before in
-    let a = crossed .before .before .before .before .before .args in
+    let made = called (c .before) in
+    let a = start (crossed made) .args in
     crosses collectedOf (a .«record») (a .heap .now) (a .roots .now) Ask.Collect
-    (crossed .record-of .ensures) (called .collect .ensures) (c .collected-of .ensures)
+    (crossed made .record-of .ensures) (made .collect .ensures) (c .collected-of .ensures)
 
 collected-of-requires : tie.Need-collected-of-requires
 unfolding step
 collected-of-requires c κs =
-    let called = c .before .before .before .before in
-    let crossed = called .before in
-    let start = crossed .before .before .before .before .before in
-    let a = start .args in
+    let made = called c in
+    let s = start (crossed made) in
+    let a = s .args in
     narrow (a .«record») (a .heap .now) (a .roots .now) Ask.Collect
-    (crossed .record-of .ensures) (called .collect .ensures) (omega (arith, start .good))
+    (crossed made .record-of .ensures) (made .collect .ensures) (omega (arith, s .good))
 
 pub phachunoi-collect-spec : {M : Type 1} → statement M
 phachunoi-collect-spec =

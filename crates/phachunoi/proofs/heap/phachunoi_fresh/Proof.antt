@@ -10,6 +10,16 @@ use Rattle.blind.proofs.beginning.fresh.Reads as fresh-reads
 use Rattle.crossing.proofs.fresh_result_of.Reads as fresh-result-of-reads
 use Rattle.crossing.proofs.record_of.Reads as record-of-reads
 
+-- where the call begins; the record is taken, and the call is made
+abbrev start : tie.After-record-of → tie.Start
+start c = c .before .before .before .before
+
+abbrev crossed : tie.After-fresh → tie.After-record-of
+crossed c = c .before
+
+abbrev called : tie.After-slice-known2 → tie.After-fresh
+called c = c .before .before
+
 slice-aggregate-fresh : tie.Need-slice-aggregate-fresh
 slice-aggregate-fresh c = search needs
 
@@ -21,23 +31,21 @@ fresh-requires c κs = search needs
 
 fresh-result-of-requires : tie.Need-fresh-result-of-requires
 fresh-result-of-requires c κs =
-    let called = c .before .before in
-    let crossed = called .before in
-    let start = crossed .before .before .before .before in
-    let a = start .args in
-    fresh-narrow (a .heap .now) (crossed .record-of .result) (a .«record»)
-    (crossed .record-of .ensures) (called .fresh .ensures) (omega (arith, start .good))
+    let made = called c in
+    let s = start (crossed made) in
+    let a = s .args in
+    fresh-narrow (a .heap .now) (crossed made .record-of .result) (a .«record»)
+    (crossed made .record-of .ensures) (made .fresh .ensures) (omega (arith, s .good))
 
 same-length : tie.Need-same-length
 same-length c = search needs
 
 returns : tie.Need-returns
 returns c =
-    let called = c .before .before .before in
-    let crossed = called .before in
-    let a = crossed .before .before .before .before .args in
-    fresh-crosses (a .heap .now) (crossed .record-of .result) (a .«record»)
-    (called .fresh .ensures) (c .fresh-result-of .ensures)
+    let made = called (c .before) in
+    let a = start (crossed made) .args in
+    fresh-crosses (a .heap .now) (crossed made .record-of .result) (a .«record»)
+    (made .fresh .ensures) (c .fresh-result-of .ensures)
 
 pub phachunoi-fresh-spec : {M : Type 1} → statement M
 phachunoi-fresh-spec =

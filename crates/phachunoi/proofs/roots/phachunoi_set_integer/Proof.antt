@@ -15,6 +15,16 @@ use Rattle.blind.proofs.integer.set_integer.Reads as set-integer-reads
 use Rattle.crossing.proofs.record_of.Reads as record-of-reads
 use Rattle.crossing.proofs.result_of.Reads as result-of-reads
 
+-- where the call begins; the record is taken, and the call is made
+abbrev start : tie.After-record-of → tie.Start
+start c = c .before .before .before .before
+
+abbrev crossed : tie.After-set-integer → tie.After-record-of
+crossed c = c .before
+
+abbrev called : tie.After-slice-known2 → tie.After-set-integer
+called c = c .before .before
+
 record-of-requires : tie.Need-record-of-requires
 record-of-requires c κs = search needs
 
@@ -27,24 +37,22 @@ same-length c = search needs
 returns : tie.Need-returns
 unfolding step
 returns c =
-    let called = c .before .before .before in
-    let crossed = called .before in
-    let start = crossed .before .before .before .before in
-    let a = start .args in
-    let v = toZ-ofZ w64 (a .value) (start .fits .value) in
+    let made = called (c .before) in
+    let s = start (crossed made) in
+    let a = s .args in
+    let v = toZ-ofZ w64 (a .value) (s .fits .value) in
     crosses resultOf (a .«record») (a .heap .now) (a .roots .now) (Ask.SetInteger (a .to) (a .value))
-    (crossed .record-of .ensures) (rw v at (called .set-integer .ensures)) (c .result-of .ensures)
+    (crossed made .record-of .ensures) (rw v at (made .set-integer .ensures)) (c .result-of .ensures)
 
 result-of-requires : tie.Need-result-of-requires
 unfolding step
 result-of-requires c κs =
-    let called = c .before .before in
-    let crossed = called .before in
-    let start = crossed .before .before .before .before in
-    let a = start .args in
-    let v = toZ-ofZ w64 (a .value) (start .fits .value) in
+    let made = called c in
+    let s = start (crossed made) in
+    let a = s .args in
+    let v = toZ-ofZ w64 (a .value) (s .fits .value) in
     narrow (a .«record») (a .heap .now) (a .roots .now) (Ask.SetInteger (a .to) (a .value))
-    (crossed .record-of .ensures) (rw v at (called .set-integer .ensures)) (omega (arith, start .good))
+    (crossed made .record-of .ensures) (rw v at (made .set-integer .ensures)) (omega (arith, s .good))
 
 pub phachunoi-set-integer-spec : {M : Type 1} → statement M
 phachunoi-set-integer-spec =

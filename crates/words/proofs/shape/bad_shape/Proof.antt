@@ -16,18 +16,28 @@ use Rattle.words.proofs.shape.bad_length.Reads as bad-length-reads
 use Rattle.words.proofs.shape.first_of.Reads as first-of-reads
 use Rattle.words.proofs.shape.half_words.Reads as half-words-reads
 
+-- where the call begins; the length is not refused, and then the number of roots is not
+abbrev start : tie.Else1 → tie.Start
+start c = c .before .before
+
+abbrev measured : tie.Else2 → tie.Else1
+measured c = c .before
+
+abbrev rooted : tie.After-first-of → tie.Else2
+rooted c = c .before .before
+
 -- what is known of the length once it is not refused
-sized : (c : tie.Else1) → badLength (c .before .before .args .length) ≡ false
+sized : (c : tie.Else1) → badLength (start c .args .length) ≡ false
 sized c = sym (c .before .bad-length .ensures) ∙ c .if1 .left
 
-good : (c : tie.Else1) → GoodLength (c .before .before .args .length)
+good : (c : tie.Else1) → GoodLength (start c .args .length)
 good c = good-length _ (sized c)
 
 -- the half's first word, by the heap's length
-first : (c : tie.After-first-of) → let s = c .before .before .before .before .before in
+first : (c : tie.After-first-of) → let s = start (measured (rooted c)) in
     c .first-of .result .0 ≡ firstOf (halfWordsOf (s .args .length)) (s .args .«record» .half)
 first c =
-    let s = c .before .before .before .before .before in
+    let s = start (measured (rooted c)) in
     first-by-length (s .args .length) (s .args .«record» .half) (c .first-of .ensures) (c .before .half-words .ensures)
 
 bad-length-requires : tie.Need-bad-length-requires
@@ -51,29 +61,27 @@ returns-3 : tie.Need-returns-3
 unfolding badShapeOf
 returns-3 c =
     let halved = c .before in
-    let rooted = halved .before .before in
     simp (
-      sized (rooted .before),
-      le-ltb _ _ (rooted .if2 .left),
+      sized (measured (rooted halved)),
+      le-ltb _ _ (rooted halved .if2 .left),
       lt-ltb _ _ (rw (first halved) at (c .if3 .taken)),
     )
 
 add-result : tie.Need-add-result
 add-result c =
     let halved = c .before in
-    let length = halved .before .before .before in
-    let s = length .before .before in
-    let most = first-most (halfWordsOf (s .args .length)) (s .args .«record» .half) in
+    let length = measured (rooted halved) in
+    let a = start length .args in
+    let most = first-most (halfWordsOf (a .length)) (a .«record» .half) in
     record { fits = omega (arith, halved .before .half-words .ensures, first halved, most, good length) }
 
 returns-4 : tie.Need-returns-4
 unfolding badShapeOf
 returns-4 c =
     let halved = c .before in
-    let rooted = halved .before .before in
     simp (
-      sized (rooted .before),
-      le-ltb _ _ (rooted .if2 .left),
+      sized (measured (rooted halved)),
+      le-ltb _ _ (rooted halved .if2 .left),
       le-ltb _ _ (rw (first halved) at (c .if3 .left)),
       first halved,
       halved .before .half-words .ensures,
