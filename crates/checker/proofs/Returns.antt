@@ -21,8 +21,11 @@ use Rattle.model.specs.Words.{stateOf, at, halfWords, other, firstOf}
 use Rattle.runs.specs.Runs.{run, cleared}
 use Rattle.runs.proofs.RunLaws.{Apart}
 use Rattle.checker_marks.specs.declared.Part.{Part}
-use Rattle.checker_marks.specs.Marks.{Fits, Halves, part, usedWords, partOf, Marking, marking, marked, isZeroAround, isValueByMarks, fieldsAreValuesByMarks, isTiledPart, headersOf, allAreValuesByMarks, usedPartSound}
-use Rattle.checker.proofs.SoundByMarks.{lengths, stop-is, marked-tiled, halves, fits, apart, sound-dirty, sound-clean, heap-restored}
+use Rattle.checker_marks.specs.Marks.{Fits, Halves, part, usedWords, partOf, Marking, marking, marked, isZeroAround}
+use Rattle.checker_marks.specs.Marks.{isValueByMarks, fieldsAreValuesByMarks, isTiledPart, headersOf, allAreValuesByMarks}
+use Rattle.checker_marks.specs.Marks.{usedPartSound}
+use Rattle.checker.proofs.SoundByMarks.{lengths, stop-is, marked-tiled, halves, fits, apart, sound-dirty}
+use Rattle.checker.proofs.SoundByMarks.{sound-clean, heap-restored}
 
 -- ---- the part of a record
 pub part-is : (S : ℕ) (q : Record) (i m : ℕ) (f : Half) → i ≡ firstOf S (q .half) → f ≡ other (q .half) → m ≡ firstOf S f

@@ -57,7 +57,7 @@ returns c =
     said _ _ (c .say .ensures)
     (same-number _ (omega arith)
     ∙ by-field tuple Untraced _ (start reached .args .field) _ _ (reached .reach .ensures) (omega arith) _
-      (raw-read-reached _ _ _ _) (found .found .given .1))
+    (raw-read-reached _ _ _ _) (found .found .given .1))
 
 returns-2 : tie.Need-returns-2
 returns-2 c =
