@@ -1,5 +1,5 @@
--- The tables of cases and limits, together. The checker takes this file first, by its name: a wrong definition is refused by a value
--- that comes out wrong, before it is refused by a proof that no longer fits.
+-- The tables of cases and limits, together. The checker takes this file first, by its name: a wrong
+-- definition is refused by a value that comes out wrong, before it is refused by a proof that no longer fits.
 use mathlib.Core.Path.{_≡_}
 use mathlib.Core.List.{map}
 use Rattle.model.specs.Worked as Worked

@@ -12,7 +12,8 @@ use Rattle.model.specs.Changes.{fits}
 use Rattle.model.specs.Collection.{cells}
 use Rattle.model.specs.Discovery.{packed, wordsBefore, found}
 use Rattle.model.specs.Words.{at}
-use Rattle.model.proofs.Discovery.{Reach, root, cell, found-later, found-distinct, lead-short, found-passed, found-takes, reach-found}
+use Rattle.model.proofs.Discovery.{Reach, root, cell, found-later, found-distinct, lead-short, found-passed}
+use Rattle.model.proofs.Discovery.{found-takes, reach-found}
 use Rattle.model.proofs.Members.{In, in-nil, in-tail, in-self, in-out, Distinct, at-in, distinct-once, position}
 use Rattle.model.proofs.Packed.{packed-at, wordsBefore-fits, wordsBefore-append, packed-starts}
 use Rattle.model.proofs.Rows.{passed}
@@ -23,7 +24,8 @@ pub prefix-at : (a b : List ℕ) (k : ℕ) → Starts a b → k < length a → g
 prefix-at a b k t l = ap (λ z. getD z k 0) (t .1) ∙ List·getD-append a (t .0) 0 k l
 
 -- a member of the front part has its place there
-pub prefix-place : (a b : List ℕ) (l x : ℕ) → Starts a b → Distinct b → l < length b → getD b l 0 ≡ x → In x a → l < length a
+pub prefix-place : (a b : List ℕ) (l x : ℕ) → Starts a b → Distinct b → l < length b → getD b l 0 ≡ x → In x a
+    → l < length a
 prefix-place a b l x t u h e m =
     let p = position x a m in
     let w : length b ≡ length a + length (t .0) = ap length (t .1) ∙ length-append a (t .0) in
@@ -110,7 +112,8 @@ module _ {C : Type 0} (cells : ℕ → List C) (blank : C) (leads : C → Option
         (short, under, found-takes cells blank leads R m j (ap leads same ∙ e))
 
     -- what a cell passed no later leads to is no farther
-    child : (i c a d x m′ : ℕ) → getD (F q) a 0 ≡ i → a < length (F q) → c < length (cells i) → suc (wordsBefore cells (F q) i + c) ≤ q
+    child : (i c a d x m′ : ℕ) → getD (F q) a 0 ≡ i → a < length (F q) → c < length (cells i)
+        → suc (wordsBefore cells (F q) i + c) ≤ q
         → m′ < suc (wordsBefore cells (F q) i + c) → m′ < length (packed cells (F m′))
         → leads (getD (packed cells (F m′)) m′ blank) ≡ some x
         → ((k : ℕ) → k ≤ a → Near cells blank leads R d (getD (F q) k 0)) → Near cells blank leads R (suc d) x

@@ -44,7 +44,8 @@ module _ (Y : Layout) (s : State) (h : SoundTests Y s) where
 pub data Allocation (Y : Layout) (k : Kind) (n r : ℕ) (s : State) : Outcome State → Type 0 where
   now : n + 1 ≤ spare s → Allocation Y k n r s (says Says.Done (placed Y k n r s))
   later : n + 1 ≤ halfWords (s .heap) - live Y s → Allocation Y k n r s (says Says.Done (placed Y k n r (collected Y s)))
-  never-fits : halfWords (s .heap) < live Y s + (n + 1) → Allocation Y k n r s (says (Says.Refused Why.Room) (collected Y s))
+  never-fits : halfWords (s .heap) < live Y s + (n + 1)
+      → Allocation Y k n r s (says (Says.Refused Why.Room) (collected Y s))
 
 pub allocation : (Y : Layout) (k : Kind) (n r : ℕ) (s : State) → SoundTests Y s → r < length (s .roots) → n ≤ maxFields
     → Allocation Y k n r s (step Y (Ask.Allocate k n r) s)
@@ -69,7 +70,8 @@ module _ (Y : Layout) (k : Kind) (n r : ℕ) (s : State) (h : SoundTests Y s) wh
   unfolding step Calls.allocate refuse
   allocate-root l = rw (unshaped s (h .shape), le-leb (length (s .roots)) r l)
 
-  pub allocate-count : r < length (s .roots) → maxFields < n → step Y (Ask.Allocate k n r) s ≡ says (Says.Refused Why.Count) s
+  pub allocate-count : r < length (s .roots) → maxFields < n
+      → step Y (Ask.Allocate k n r) s ≡ says (Says.Refused Why.Count) s
   unfolding step Calls.allocate refuse
   allocate-count l u = rw (unshaped s (h .shape), lt-leb (length (s .roots)) r l, lt-ltb maxFields n u)
 
@@ -78,7 +80,8 @@ module _ (Y : Layout) (k : Kind) (n r : ℕ) (s : State) (h : SoundTests Y s) wh
       → (step Y (Ask.Allocate k n r) s .answer ≡ D3.noRoom) ↔ (halfWords (s .heap) < live Y s + (n + 1))
   allocate-room l u = go (step Y (Ask.Allocate k n r) s) (allocation Y k n r s h l u)
     where
-      go : (o : Outcome State) → Allocation Y k n r s o → (o .answer ≡ D3.noRoom) ↔ (halfWords (s .heap) < live Y s + (n + 1))
+      go : (o : Outcome State) → Allocation Y k n r s o
+          → (o .answer ≡ D3.noRoom) ↔ (halfWords (s .heap) < live Y s + (n + 1))
       go o (now f) = (λ e. absurd (done-plainly Why.Room e), λ e. absurd (omega (arith, spare-grows Y s h)))
       go o (later f) = (λ e. absurd (done-plainly Why.Room e), λ e. absurd (omega arith))
       go o (never-fits f) = (λ e. f, λ e. refl)

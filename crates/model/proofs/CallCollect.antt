@@ -12,7 +12,8 @@ use Rattle.model.specs.Answers.{refuse}
 use Rattle.model.specs.Collection.{still, fieldCell, cells, wordLeads, cellLeads, orderAt, order, live, collected}
 use Rattle.model.specs.Demand2 as D
 use Rattle.model.specs.Discovery.{packed}
-use Rattle.model.specs.Graph.{null, Value, plain, object, Object, traced, untraced, Graph, nth, rootValue, valueLeads, objectCells, graphCells, itself, totalWords, graphOrder, graphLive}
+use Rattle.model.specs.Graph.{null, Value, plain, object, Object, traced, untraced, Graph, nth, rootValue, valueLeads}
+use Rattle.model.specs.Graph.{objectCells, graphCells, itself, totalWords, graphOrder, graphLive}
 use Rattle.model.specs.GraphCalls.{graphStep}
 use Rattle.model.specs.Headers.{Layout}
 use Rattle.model.specs.Objects.{address, index, kind, fieldCount, size, fieldWords}
@@ -48,9 +49,11 @@ module _ (Y : Layout) (s : State) (g : Graph) (m : Represents Y s g) where
       (e .0, rw (e .1, header-is-address Y s (parts m) (m .headerOf x) (m .head x (e .0)), index-address Y (m .headerOf x)))
 
   -- the cells of an object, in both
-  object-size : (b : Object) (i : ℕ) → i + size Y (s .heap) i ≤ length (s .heap) → Holds Y (m .kept) (m .headerOf) (s .heap) b i
+  object-size : (b : Object) (i : ℕ) → i + size Y (s .heap) i ≤ length (s .heap)
+      → Holds Y (m .kept) (m .headerOf) (s .heap) b i
       → length (cells Y (s .heap) i) ≡ length (objectCells b)
-  object-size (traced vs) i l h = let c = cells-length Y (s .heap) i l in let z = length-map vs valueLeads in let y = h .1 in omega arith
+  object-size (traced vs) i l h =
+      let c = cells-length Y (s .heap) i l in let z = length-map vs valueLeads in let y = h .1 in omega arith
   object-size (untraced ws) i l h =
       let c = cells-length Y (s .heap) i l in
       let z : length {A = Option ℕ} (replicate (length ws) none) ≡ length ws = length-replicate (length ws) none in
@@ -64,7 +67,8 @@ module _ (Y : Layout) (s : State) (g : Graph) (m : Represents Y s g) where
       getD-map (fieldCell (kind Y (s .heap) i)) (fieldWords Y (s .heap) i) f 0 (still 0) (omega arith)
       ∙ ap (fieldCell (kind Y (s .heap) i)) (field-at Y (s .heap) i f u)
 
-  object-alike : (b : Object) (i k : ℕ) → i + size Y (s .heap) i ≤ length (s .heap) → Holds Y (m .kept) (m .headerOf) (s .heap) b i
+  object-alike : (b : Object) (i k : ℕ) → i + size Y (s .heap) i ≤ length (s .heap)
+      → Holds Y (m .kept) (m .headerOf) (s .heap) b i
       → k < length (objectCells b)
       → A (itself (getD (objectCells b) k none)) (cellLeads Y (getD (cells Y (s .heap) i) k (still 0)))
   object-alike (traced vs) i zero l h u = refl
@@ -102,7 +106,8 @@ module _ (Y : Layout) (s : State) (g : Graph) (m : Represents Y s g) where
       (λ x k i l. object-alike (nth g x) (m .headerOf x) k (within x i) (m .holds x i) l)
       (map valueLeads (g .roots)) (map (wordLeads Y) (s .roots)) roots-count roots-along p
 
-  words-along : (p : ℕ) → length (packed (cells Y (s .heap)) (orderAt Y s p)) ≡ length (packed (graphCells g) (graphOrder g p))
+  words-along : (p : ℕ)
+      → length (packed (cells Y (s .heap)) (orderAt Y s p)) ≡ length (packed (graphCells g) (graphOrder g p))
   words-along p =
       rw (order-along p .0)
       (packed-sizes (m .kept) (m .headerOf) (m .apart) (graphCells g) none itself (cells Y (s .heap)) (still 0) (cellLeads Y) refl refl
@@ -128,7 +133,8 @@ module _ (Y : Layout) (s : State) (g : Graph) (m : Represents Y s g) where
   -- the live words are the graph's
   pub live-same : live Y s ≡ graphLive g
   unfolding graphLive
-  live-same = live-is Y s (parts m) ∙ words-along (halfWords (s .heap)) ∙ ap (λ o. length (packed (graphCells g) o)) orders-same
+  live-same =
+      live-is Y s (parts m) ∙ words-along (halfWords (s .heap)) ∙ ap (λ o. length (packed (graphCells g) o)) orders-same
 
   abbrev c : D.Collects Y s (collected Y s) (live Y s)
   c = collects Y s (parts m)

@@ -59,8 +59,10 @@ module _ (Y : Layout) (law : WritesBoth Y) where
     rep-more (object x) w e =
         (in-append-left x (m .kept) (length (g .objects) ∷ []) (e .0), e .1 ∙ ap (address Y) (sym (old-pl x (e .0))))
 
-    holds-more : (b : Object) (i : ℕ) → Holds Y (m .kept) (m .headerOf) (s .heap) b i → Holds Y kept⁺ headerOf⁺ (s .heap) b i
-    holds-more (traced vs) i h = (h .0, h .1, λ f l. rep-more (getD vs f (plain null)) (at (s .heap) (i + 1 + f)) (h .2 f l))
+    holds-more : (b : Object) (i : ℕ) → Holds Y (m .kept) (m .headerOf) (s .heap) b i
+        → Holds Y kept⁺ headerOf⁺ (s .heap) b i
+    holds-more (traced vs) i h =
+        (h .0, h .1, λ f l. rep-more (getD vs f (plain null)) (at (s .heap) (i + 1 + f)) (h .2 f l))
     holds-more (untraced ws) i h = h
 
     old-holds : (x : ℕ) → In x (m .kept) → Holds Y kept⁺ headerOf⁺ (s⁺ .heap) (nth g x) (m .headerOf x)

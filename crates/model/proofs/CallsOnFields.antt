@@ -30,7 +30,8 @@ use Rattle.model.proofs.Keeping.{tile, field-no-header, one-object, wor
 use Rattle.model.proofs.Members.{In}
 use Rattle.model.proofs.Objects.{index-address}
 use Rattle.model.specs.Represents.{Encodes, Holds, Represents}
-use Rattle.model.proofs.Represents.{parts, plain-no-address, Agrees, refuse-agrees, roots-agree, rep-value, plain-names-nothing, header-names}
+use Rattle.model.proofs.Represents.{parts, plain-no-address, Agrees, refuse-agrees, roots-agree, rep-value}
+use Rattle.model.proofs.Represents.{plain-names-nothing, header-names}
 use Rattle.model.proofs.CallsOnRoots.{root-represents, has-root}
 use Rattle.model.proofs.Shape.{first-in}
 use Rattle.model.proofs.Tests.{never, same?, or-none}
@@ -38,7 +39,8 @@ use Rattle.model.proofs.Tests.{never, same?, or-none}
 module _ (Y : Layout) where
   -- an object of the heap whose words stay
   pub holds-kept : (kept : List ℕ) (headerOf : ℕ → ℕ) (H H′ : List ℕ) (b : Object) (i : ℕ) → at H′ i ≡ at H i
-      → ((f : ℕ) → f < fieldCount Y H i → at H′ (i + 1 + f) ≡ at H (i + 1 + f)) → Holds Y kept headerOf H b i → Holds Y kept headerOf H′ b i
+      → ((f : ℕ) → f < fieldCount Y H i → at H′ (i + 1 + f) ≡ at H (i + 1 + f)) → Holds Y kept headerOf H b i
+      → Holds Y kept headerOf H′ b i
   holds-kept kept headerOf H H′ (traced vs) i e k h =
       (ap (λ x. Y .kindOf x) e ∙ h .0, ap (λ x. Y .countOf x) e ∙ h .1, λ f l. rw (k f (let z = h .1 in omega arith)) (h .2 f l))
   holds-kept kept headerOf H H′ (untraced ws) i e k h =
@@ -54,7 +56,8 @@ module _ (Y : Layout) where
       (byKind (nth g x) (t x) (u x)))
       → Agrees Y (onField Y k w f s next) (onObject g v t u)
   unfolding onObject refuse
-  on-object s g m k (plain p) w f next t u e a = rw (plain-names-nothing Y s w (rw (e .1) (plain-no-address p (e .0)))) (refl, m)
+  on-object s g m k (plain p) w f next t u e a =
+      rw (plain-names-nothing Y s w (rw (e .1) (plain-no-address p (e .0)))) (refl, m)
   on-object s g m k (object x) w f next t u e a =
       let i = m .headerOf x in
       let hd = m .head x (e .0) in
@@ -165,19 +168,22 @@ module _ (Y : Layout) where
       }
 
   -- the object's field lies in the heap, and its header stays
-  field-in : (s : State) (g : Graph) (m : Represents Y s g) (x f : ℕ) → In x (m .kept) → f < fieldCount Y (s .heap) (m .headerOf x)
+  field-in : (s : State) (g : Graph) (m : Represents Y s g) (x f : ℕ) → In x (m .kept)
+      → f < fieldCount Y (s .heap) (m .headerOf x)
       → m .headerOf x + 1 + f < length (s .heap)
   field-in s g m x f i l =
       let t = tile Y s (parts m) (m .headerOf x) (m .head x i) .within in
       let z = first-in s (parts m .shape) in
       omega (arith, parts m .shape .high)
 
-  header-stays : (s : State) (g : Graph) (m : Represents Y s g) (x f w : ℕ) → In x (m .kept) → f < fieldCount Y (s .heap) (m .headerOf x)
+  header-stays : (s : State) (g : Graph) (m : Represents Y s g) (x f w : ℕ) → In x (m .kept)
+      → f < fieldCount Y (s .heap) (m .headerOf x)
       → at (set (s .heap) (m .headerOf x + 1 + f) w) (m .headerOf x) ≡ at (s .heap) (m .headerOf x)
   header-stays s g m x f w i l = getD-set-other (s .heap) (m .headerOf x + 1 + f) (m .headerOf x) w 0 (λ e. omega arith)
 
   -- a list and the heap change at one field alike
-  set-alike : {A : Type 0} (R : A → ℕ → Type 0) (vs : List A) (d v : A) (H : List ℕ) (i f w : ℕ) → f < length vs → i + 1 + f < length H
+  set-alike : {A : Type 0} (R : A → ℕ → Type 0) (vs : List A) (d v : A) (H : List ℕ) (i f w : ℕ) → f < length vs
+      → i + 1 + f < length H
       → ((k : ℕ) → k < length vs → R (getD vs k d) (at H (i + 1 + k))) → R v w
       → (k : ℕ) → k < length (set vs f v) → R (getD (set vs f v) k d) (at (set H (i + 1 + f) w) (i + 1 + k))
   set-alike R vs d v H i f w l u h r k a =
@@ -190,9 +196,11 @@ module _ (Y : Layout) where
       rw (getD-set-other vs f k v d n, getD-set-other H (i + 1 + f) (i + 1 + k) w 0 (λ z. n (omega arith))) (h k a′))
       (same? k f)
 
-  store-represents : (s : State) (g : Graph) (m : Represents Y s g) (x f w : ℕ) (vs : List Value) (v : Value) → In x (m .kept)
+  store-represents : (s : State) (g : Graph) (m : Represents Y s g) (x f w : ℕ) (vs : List Value) (v : Value)
+      → In x (m .kept)
       → nth g x ≡ traced vs → f < length vs
-      → Encodes Y (m .kept) (m .headerOf) v w → Represents Y (withWord s (m .headerOf x + 1 + f) w) (withObject g x (traced (set vs f v)))
+      → Encodes Y (m .kept) (m .headerOf) v w
+      → Represents Y (withWord s (m .headerOf x + 1 + f) w) (withObject g x (traced (set vs f v)))
   store-represents s g m x f w vs v i o l e =
       let h = held s g m x (traced vs) i o in
       let u : f < fieldCount Y (s .heap) (m .headerOf x) = let z = h .1 in omega arith in

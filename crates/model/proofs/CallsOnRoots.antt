@@ -17,7 +17,8 @@ use Rattle.model.specs.declared.Call.the-variants as Ask
 use Rattle.model.specs.Calls as Calls
 use Rattle.model.specs.Answers.{says, refuse}
 use Rattle.model.specs.Changes.{noRoot, rootWord, withRoot}
-use Rattle.model.specs.Graph.{Plain, integer, null, Value, plain, object, Object, traced, untraced, Graph, nth, rootValue}
+use Rattle.model.specs.Graph.{Plain, integer, null, Value, plain, object, Object, traced, untraced, Graph, nth}
+use Rattle.model.specs.Graph.{rootValue}
 use Rattle.model.specs.GraphCalls.{graphWithRoot, sameInteger, samePlain, sameValue, byKind, inspected, graphStep}
 use Rattle.model.specs.Headers.{Layout}
 use Rattle.model.specs.Limits.{maxInteger}
@@ -31,13 +32,15 @@ use Rattle.model.proofs.Keeping.{root-sound}
 use Rattle.model.proofs.Members.{In}
 use Rattle.model.proofs.Objects.{index-address}
 use Rattle.model.specs.Represents.{plainWord, hasWord, Encodes, Holds, Represents}
-use Rattle.model.proofs.Represents.{parts, plain-no-address, Agrees, refuse-agrees, roots-agree, rep-value, header-not-null, header-not-odd, header-is-address, header-names}
+use Rattle.model.proofs.Represents.{parts, plain-no-address, Agrees, refuse-agrees, roots-agree, rep-value}
+use Rattle.model.proofs.Represents.{header-not-null, header-not-odd, header-is-address, header-names}
 use Rattle.model.proofs.Soundness.{sound-whole}
 use Rattle.model.proofs.Tests.{never, same?, or-none}
 
 module _ (Y : Layout) where
   -- a root is set
-  pub root-represents : (s : State) (g : Graph) (m : Represents Y s g) (r w : ℕ) (v : Value) → Encodes Y (m .kept) (m .headerOf) v w
+  pub root-represents : (s : State) (g : Graph) (m : Represents Y s g) (r w : ℕ) (v : Value)
+      → Encodes Y (m .kept) (m .headerOf) v w
       → Represents Y (withRoot s r w) (graphWithRoot g r v)
   root-represents s g m r w v e = record {
     ok = tests-sound Y (withRoot s r w) (root-sound Y s (parts m) r w (rep-value Y s g m v w e));
@@ -80,7 +83,8 @@ module _ (Y : Layout) where
       roots-agree Y (r ∷ []) s g _ _ m (λ a.
       (refl, root-represents s g m r 0 (plain null) (refl, refl)))
 
-  pub copy-agrees : (p q : ℕ) (s : State) (g : Graph) → Represents Y s g → Agrees Y (step Y (Ask.Copy p q) s) (graphStep (Ask.Copy p q) g)
+  pub copy-agrees : (p q : ℕ) (s : State) (g : Graph) → Represents Y s g
+      → Agrees Y (step Y (Ask.Copy p q) s) (graphStep (Ask.Copy p q) g)
   unfolding step Calls.copy graphStep
   copy-agrees p q s g m =
       roots-agree Y (p ∷ q ∷ []) s g _ _ m (λ a. (
@@ -124,7 +128,8 @@ module _ (Y : Layout) where
   plain-apart s g m p x h i e =
       never (header-is-address Y s (parts m) (m .headerOf x) (m .head x i)) (ap isAddress (sym e) ∙ plain-no-address p h)
 
-  same-word : (s : State) (g : Graph) (m : Represents Y s g) (v v′ : Value) (w w′ : ℕ) → Encodes Y (m .kept) (m .headerOf) v w
+  same-word : (s : State) (g : Graph) (m : Represents Y s g) (v v′ : Value) (w w′ : ℕ)
+      → Encodes Y (m .kept) (m .headerOf) v w
       → Encodes Y (m .kept) (m .headerOf) v′ w′
       → eqb w w′ ≡ sameValue v v′
   same-word s g m (plain a) (plain b) w w′ e e′ = rw (e .1, e′ .1) (same-plain a b (e .0) (e′ .0))
@@ -138,7 +143,8 @@ module _ (Y : Layout) where
       (λ z. m .apart x y (e .0) (e′ .0) (omega arith))
       (λ z. ap (λ k. address Y (m .headerOf k)) z))
 
-  pub same-agrees : (p q : ℕ) (s : State) (g : Graph) → Represents Y s g → Agrees Y (step Y (Ask.Same p q) s) (graphStep (Ask.Same p q) g)
+  pub same-agrees : (p q : ℕ) (s : State) (g : Graph) → Represents Y s g
+      → Agrees Y (step Y (Ask.Same p q) s) (graphStep (Ask.Same p q) g)
   unfolding step Calls.same graphStep
   same-agrees p q s g m =
       roots-agree Y (p ∷ q ∷ []) s g _ _ m (λ a.

@@ -34,7 +34,8 @@ use Rattle.model.specs.Words.{State, at}
 use Rattle.model.proofs.Changed.{root-changed, word-changed, new-object}
 use Rattle.model.proofs.Collected.{new-roots}
 use Rattle.model.proofs.CollectedSound.{new-shape}
-use Rattle.model.proofs.Conditions.{roots-decide, count-decides, range-decides, object-decides, value-decides, kind-decides, field-decides}
+use Rattle.model.proofs.Conditions.{roots-decide, count-decides, range-decides, object-decides, value-decides}
+use Rattle.model.proofs.Conditions.{kind-decides, field-decides}
 use Rattle.model.proofs.Deciding.{shape-decides, other-address, names-decides, sound-decides}
 use Rattle.model.proofs.Shape.{Shaped, shaped, first-in}
 use Rattle.model.proofs.Soundness.{SoundTests, sound-parts, sound-whole}
@@ -50,7 +51,8 @@ done-with P t e p = (ap (λ z. z .answer) e, subst P (sym (ap (λ z. z .left) e)
 
 module _ (Y : Layout) (s : State) where
   -- past SHAPE and ROOT
-  pub past-roots : (named : List ℕ) (o : Outcome State) → (C.BadShape s → ⊥) → (Row.NoRoot s named → ⊥) → onRoots named s o ≡ o
+  pub past-roots : (named : List ℕ) (o : Outcome State) → (C.BadShape s → ⊥) → (Row.NoRoot s named → ⊥)
+      → onRoots named s o ≡ o
   unfolding refuse
   past-roots named o a b = rw (fails-test (shape-decides s) a, fails-test (roots-decide s named) b)
 
@@ -85,7 +87,8 @@ module _ (Y : Layout) (s : State) where
 
   -- ---- set, copy, load: one root
 
-  pub set-integer : (r : ℕ) (v : ℤ) → E.Passes Y (Ask.SetInteger r v) s → E.Done (step Y (Ask.SetInteger r v) s) (E.RootChanged s r (tag v))
+  pub set-integer : (r : ℕ) (v : ℤ) → E.Passes Y (Ask.SetInteger r v) s
+      → E.Done (step Y (Ask.SetInteger r v) s) (E.RootChanged s r (tag v))
   unfolding step Calls.setInteger refuse
   set-integer r v p =
       done-with (E.RootChanged s r (tag v)) (withRoot s r (tag v))

@@ -1,5 +1,5 @@
 -- What a collection leaves, word by word.
-use Prim.Native.Nat.{ℕ, zero, suc, _+_, _-_, _/_, _≤_, _<_}
+use Prim.Native.Nat.{ℕ, zero, suc, _+_, _-_, _≤_, _<_}
 use native.Mathlib.Omega.{arith}
 use native.Mathlib.Nat.{add-zero}
 use mathlib.Core.Path.{_≡_, refl, sym, ap, _∙_}
@@ -8,13 +8,15 @@ use mathlib.Core.List.{List, map}
 use lib.ListN.{length, getD, replicate, length-map, length-replicate, getD-replicate}
 use Rattle.model.specs.declared.Half.{Half}
 use Rattle.model.specs.declared.Half.the-variants.{A, B}
-use Rattle.model.specs.Collection.{Cell, still, fieldCell, build, filled, cells, order, live, rename, settle, copied, collected}
+use Rattle.model.specs.Collection.{Cell, still, fieldCell, build, filled, cells, order, live, rename, settle, copied}
+use Rattle.model.specs.Collection.{collected}
 use Rattle.model.specs.Demand2 as D
 use Rattle.model.specs.Discovery.{packed, wordsBefore}
 use Rattle.model.specs.Headers.{Layout}
 use Rattle.model.specs.Objects.{kind, fieldCount, size, fieldWords}
 use Rattle.model.specs.Words.{State, at, halfWordsOf, halfWords, other, firstOf, firstWord, otherFirst, free}
-use Rattle.model.proofs.Halves.{other-other, build-length, build-new, build-old, filled-length, filled-in, filled-out}
+use Rattle.model.proofs.Halves.{other-other, build-length, build-new, build-old, filled-length, filled-in}
+use Rattle.model.proofs.Halves.{filled-out}
 use Rattle.model.proofs.Lists.{getD-map}
 use Rattle.model.proofs.Members.{In}
 use Rattle.model.proofs.Objects.{cells-length, field-at, fields-length}
@@ -61,7 +63,9 @@ module _ (Y : Layout) (s : State) (h : SoundTests Y s) where
 
   pub new-other : otherFirst s′ ≡ firstWord s
   unfolding copied
-  new-other = ap (λ x. firstOf x (other (other (s .«record» .half)))) new-room ∙ ap (λ x. firstOf S x) (other-other (s .«record» .half))
+  new-other =
+      ap (λ x. firstOf x (other (other (s .«record» .half)))) new-room
+      ∙ ap (λ x. firstOf S x) (other-other (s .«record» .half))
 
   pub new-half : s′ .«record» .half ≡ other (s .«record» .half)
   unfolding copied
@@ -103,7 +107,8 @@ module _ (Y : Layout) (s : State) (h : SoundTests Y s) where
       go B = refl
 
   -- where each object's words are
-  pub order-tile : (i : ℕ) → In i (order Y s) → (i + size Y (s .heap) i ≤ length (s .heap)) × (Y .isHeader (at (s .heap) i) ≡ true)
+  pub order-tile : (i : ℕ) → In i (order Y s)
+      → (i + size Y (s .heap) i ≤ length (s .heap)) × (Y .isHeader (at (s .heap) i) ≡ true)
   order-tile i m =
       let t = headers-tile Y (s .heap) (free s) (free s - firstWord s) (firstWord s) i (h .tiled) (order-header Y s h i m) in
       (omega (arith, t .within, free-in Y s h), t .clear)
@@ -133,7 +138,8 @@ module _ (Y : Layout) (s : State) (h : SoundTests Y s) where
       (getD-map (fieldCell (kind Y (s .heap) i)) (fieldWords Y (s .heap) i) f 0 (still 0) (omega arith)
       ∙ ap (fieldCell (kind Y (s .heap) i)) (field-at Y (s .heap) i f l))
 
-  pub new-root : (r : ℕ) → r < length (s .roots) → at (s′ .roots) r ≡ rename Y (s .heap) (order Y s) (otherFirst s) (at (s .roots) r)
+  pub new-root : (r : ℕ) → r < length (s .roots)
+      → at (s′ .roots) r ≡ rename Y (s .heap) (order Y s) (otherFirst s) (at (s .roots) r)
   unfolding copied
   new-root r l = getD-map (rename Y (s .heap) (order Y s) (otherFirst s)) (s .roots) r 0 0 l
 

@@ -17,11 +17,13 @@ use Rattle.model.specs.Objects.{index, kind, fieldCount}
 use Rattle.model.specs.Soundness.{tiles, headers, isValue}
 use Rattle.model.specs.Values.{isAddress}
 use Rattle.model.specs.Words.{State, at, halfWords, firstWord, otherFirst, free}
-use Rattle.model.proofs.Collected.{live-is, new-length, new-room, new-first, new-other, new-free, new-rest, new-old, new-null, order-tile, new-header, new-field, new-root, new-roots}
+use Rattle.model.proofs.Collected.{live-is, new-length, new-room, new-first, new-other, new-free, new-rest, new-old}
+use Rattle.model.proofs.Collected.{new-null, order-tile, new-header, new-field, new-root, new-roots}
 use Rattle.model.proofs.Copies.{copies-tiled}
 use Rattle.model.proofs.Members.{In, in-map, map-in-out}
 use Rattle.model.proofs.Objects.{cells-length}
-use Rattle.model.proofs.Order.{orderAt-distinct, orderAt-reached, order-fits, reached-order, reached-reach, reach-reached}
+use Rattle.model.proofs.Order.{orderAt-distinct, orderAt-reached, order-fits, reached-order, reached-reach}
+use Rattle.model.proofs.Order.{reach-reached}
 use Rattle.model.proofs.Shape.{Shaped}
 use Rattle.model.proofs.Soundness.{SoundTests}
 use Rattle.model.proofs.Tests.{by-test}
@@ -88,7 +90,8 @@ module _ (Y : Layout) (s : State) (h : SoundTests Y s) where
   pub traced-field : (x f : ℕ) → In x (order Y s) → kind Y (s .heap) x ≡ Traced → f < fieldCount Y (s .heap) x
       → at (s′ .heap) (D.copyIndex Y s x + 1 + f) ≡ rename Y (s .heap) (order Y s) (otherFirst s) (at (s .heap) (x + 1 + f))
   traced-field x f m k l =
-      new-field Y s h x f m l ∙ ap (λ z. settle Y (s .heap) (order Y s) (otherFirst s) (fieldCell z (at (s .heap) (x + 1 + f)))) k
+      new-field Y s h x f m l
+      ∙ ap (λ z. settle Y (s .heap) (order Y s) (otherFirst s) (fieldCell z (at (s .heap) (x + 1 + f)))) k
 
   new-value : (x f : ℕ) → In x (order Y s) → kind Y (s′ .heap) (D.copyIndex Y s x) ≡ Traced
       → f < fieldCount Y (s′ .heap) (D.copyIndex Y s x)

@@ -92,7 +92,8 @@ module _ (Y : Layout) (s : State) (r : ℕ) where
     is-named : C.Names Y s (rootWord s r)
     is-named = names-decides Y s (rootWord s r) .holds n
 
-    pub kind-decides : (k : Kind) → Decides (not (isOfKind k (kind Y (s .heap) (index Y (rootWord s r))))) (Row.OtherKind Y s k r)
+    pub kind-decides : (k : Kind)
+        → Decides (not (isOfKind k (kind Y (s .heap) (index Y (rootWord s r))))) (Row.OtherKind Y s k r)
     kind-decides k = record {
       holds =
           λ e. (
@@ -123,10 +124,13 @@ called n s e = leb-false (n + 1) (spare s) e
 pub uncalled : (n : ℕ) (s : State) → fits n s ≡ true → Row.CalledFor n s → ⊥
 uncalled n s e c = let l = leb-true (n + 1) (spare s) e in omega arith
 
-pub damaged-decides : (Y : Layout) (n : ℕ) (s : State) → Row.CalledFor n s → Decides (not (sound Y s)) (Row.CalledFor n s × Row.Unsound Y s)
-damaged-decides Y n s c = record { holds = λ e. (c, unsound-decides Y s .holds e); fails = λ e u. unsound-decides Y s .fails e (u .1) }
+pub damaged-decides : (Y : Layout) (n : ℕ) (s : State) → Row.CalledFor n s
+    → Decides (not (sound Y s)) (Row.CalledFor n s × Row.Unsound Y s)
+damaged-decides Y n s c =
+    record { holds = λ e. (c, unsound-decides Y s .holds e); fails = λ e u. unsound-decides Y s .fails e (u .1) }
 
-pub room-decides : (n : ℕ) (s s′ : State) → Row.CalledFor n s → Decides (not (fits n s′)) (Row.CalledFor n s × Row.CalledFor n s′)
+pub room-decides : (n : ℕ) (s s′ : State) → Row.CalledFor n s
+    → Decides (not (fits n s′)) (Row.CalledFor n s × Row.CalledFor n s′)
 room-decides n s s′ c = record {
   holds = λ e. (c, called n s′ (not-true (fits n s′) e));
   fails = λ e u. uncalled n s′ (not-false (fits n s′) e) (u .1);

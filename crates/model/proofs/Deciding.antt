@@ -23,7 +23,8 @@ use Rattle.model.proofs.Members.{In, mem-in, in-mem}
 use Rattle.model.proofs.Shape.{Shaped, GoodLength, good-length, shaped, unshaped, first-in}
 use Rattle.model.proofs.Soundness.{SoundTests, sound-parts, sound-whole}
 use Rattle.model.proofs.Tests.{by-test, never, same?, or-cases, and-both}
-use Rattle.model.proofs.Tiling.{tiles-step, tiles-le, tiles-more, tiles-here, headers-more, headers-end, headers-here}
+use Rattle.model.proofs.Tiling.{tiles-step, tiles-le, tiles-more, tiles-here, headers-more, headers-end}
+use Rattle.model.proofs.Tiling.{headers-here}
 use Rattle.model.proofs.Values.{value-header, address-value, plain-value}
 
 -- ---- SHAPE
@@ -229,4 +230,5 @@ module _ (Y : Layout) where
   }
 
   pub tests-decide : C.TestsDecide Y
-  tests-decide = record { ofLength = length-decides; ofShape = shape-decides; ofNames = names-decides; ofSound = sound-decides }
+  tests-decide =
+      record { ofLength = length-decides; ofShape = shape-decides; ofNames = names-decides; ofSound = sound-decides }

@@ -32,7 +32,8 @@ use Rattle.model.proofs.PlainAnswers.{refused-same, done-plainly}
 use Rattle.model.proofs.Conditions.{roots-decide, object-decides}
 use Rattle.model.proofs.Deciding.{length-decides, shape-decides}
 use Rattle.model.proofs.Demand2.{collects}
-use Rattle.model.proofs.Judged.{Left, unchanged, recollected, Judged, by-row, by-none, judged-refuse, judged-says, step-judged}
+use Rattle.model.proofs.Judged.{Left, unchanged, recollected, Judged, by-row, by-none, judged-refuse, judged-says}
+use Rattle.model.proofs.Judged.{step-judged}
 use Rattle.model.proofs.Rows.{Settled, refused, passed, settled-refuses}
 use Rattle.model.proofs.Tests.{by-test}
 
@@ -42,7 +43,8 @@ module _ (Y : Layout) where
   judged-settled s qs o (by-none n p) = passed n p
 
   -- what a refused outcome leaves
-  judged-left : (s : State) (qs : List Row.Row) (o : Outcome State) (k : Refusal) → Judged Y s qs o → o .answer ≡ Says.Refused k
+  judged-left : (s : State) (qs : List Row.Row) (o : Outcome State) (k : Refusal) → Judged Y s qs o
+      → o .answer ≡ Says.Refused k
       → Left Y s k (o .left)
   judged-left s qs o k (by-row j f e l) a = subst (λ z. Left Y s z (o .left)) (refused-same j k (sym e ∙ a)) l
   judged-left s qs o k (by-none n p) a = absurd (p k a)

@@ -8,14 +8,16 @@ use Rattle.model.specs.declared.Answer.the-variants as Says
 use Rattle.model.specs.declared.Call.the-variants as Ask
 use Rattle.model.specs.Calls as Calls
 use Rattle.model.specs.Answers.{says, refuse}
-use Rattle.model.specs.Collection.{still, fieldCell, cells, wordLeads, cellLeads, orderAt, order, live, settle, collected}
+use Rattle.model.specs.Collection.{still, fieldCell, cells, wordLeads, cellLeads, orderAt, order, live, settle}
+use Rattle.model.specs.Collection.{collected}
 use Rattle.model.specs.Demand2 as D
 use Rattle.model.specs.Discovery.{packed}
 use Rattle.model.specs.Headers.{Layout}
 use Rattle.model.specs.Sessions.{step, machine, answers}
 use Rattle.model.specs.Words.{State, at, halfWords, otherFirst}
 use Rattle.model.proofs.Breadth.{breadth}
-use Rattle.model.proofs.Collected.{live-is, new-length, new-first, new-half, new-free, order-tile, new-header, new-field, new-root, new-roots}
+use Rattle.model.proofs.Collected.{live-is, new-length, new-first, new-half, new-free, order-tile, new-header}
+use Rattle.model.proofs.Collected.{new-field, new-root, new-roots}
 use Rattle.model.proofs.CollectedSound.{new-tiled, becomes, reach-order, order-reach, traced-field, new-sound}
 use Rattle.model.proofs.Copies.{wordsBefore-nth}
 use Rattle.model.proofs.Deciding.{tests-sound, sound-tests}
@@ -32,7 +34,8 @@ module _ (Y : Layout) (s : State) (h : SoundTests Y s) where
   abbrev s′ : State
   s′ = collected Y s
 
-  sizes-packed : (o : List ℕ) → ((x : ℕ) → In x o → In x (order Y s)) → length (packed (cells Y (s .heap)) o) ≡ D.sizes Y (s .heap) o
+  sizes-packed : (o : List ℕ) → ((x : ℕ) → In x o → In x (order Y s))
+      → length (packed (cells Y (s .heap)) o) ≡ D.sizes Y (s .heap) o
   unfolding packed
   sizes-packed [] f = refl
   sizes-packed (i ∷ o) f =
@@ -67,7 +70,8 @@ module _ (Y : Layout) (s : State) (h : SoundTests Y s) where
     rawField = λ i f r k l.
         new-field Y s h i f (reach-order Y s h i r) l
         ∙ ap (λ z. settle Y (s .heap) (order Y s) (otherFirst s) (fieldCell z (at (s .heap) (i + 1 + f)))) k;
-    valueField = λ i f r k l. rw (traced-field Y s h i f (reach-order Y s h i r) k l) (becomes Y s h (at (s .heap) (i + 1 + f)));
+    valueField =
+        λ i f r k l. rw (traced-field Y s h i f (reach-order Y s h i r) k l) (becomes Y s h (at (s .heap) (i + 1 + f)));
     rootCount = new-roots Y s h;
     root = λ r l. rw (new-root Y s h r l) (becomes Y s h (at (s .roots) r));
     shared = λ i j a b e.

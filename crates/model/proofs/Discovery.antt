@@ -17,12 +17,14 @@ use Rattle.model.specs.Words.{at}
 use Rattle.model.proofs.Members.{In, in-nil, Distinct}
 use Rattle.model.proofs.Packed.{packed-at, wordsBefore-fits, packed-starts, find}
 use Rattle.model.proofs.Tests.{by-test}
-use Rattle.model.proofs.Visits.{Starts, starts-refl, starts-trans, starts-in, no-some, visit-starts, visit-distinct, visit-has, visit-only, visits-distinct, visits-has, visits-only}
+use Rattle.model.proofs.Visits.{Starts, starts-refl, starts-trans, starts-in, no-some, visit-starts, visit-distinct}
+use Rattle.model.proofs.Visits.{visit-has, visit-only, visits-distinct, visits-has, visits-only}
 
 -- reachable from the leads R, by cells
 pub data Reach {C : Type 0} (cells : ℕ → List C) (blank : C) (leads : C → Option ℕ) (R : List (Option ℕ)) : ℕ → Type 0 where
   root : (k : ℕ) {i : ℕ} → getD R k none ≡ some i → Reach cells blank leads R i
-  cell : (k : ℕ) {i j : ℕ} → Reach cells blank leads R i → leads (getD (cells i) k blank) ≡ some j → Reach cells blank leads R j
+  cell : (k : ℕ) {i j : ℕ} → Reach cells blank leads R i → leads (getD (cells i) k blank) ≡ some j
+      → Reach cells blank leads R j
 
 module _ {C : Type 0} (cells : ℕ → List C) (blank : C) (leads : C → Option ℕ) (R : List (Option ℕ)) where
   abbrev F : ℕ → List ℕ
@@ -34,7 +36,8 @@ module _ {C : Type 0} (cells : ℕ → List C) (blank : C) (leads : C → Option
 
   pub found-starts : (p d : ℕ) → Starts (F p) (F (d + p))
   found-starts p zero = rw zero-add (starts-refl (F p))
-  found-starts p (suc d) = rw suc-add (starts-trans (F p) (F (d + p)) (F (suc (d + p))) (found-starts p d) (found-step (d + p)))
+  found-starts p (suc d) =
+      rw suc-add (starts-trans (F p) (F (d + p)) (F (suc (d + p))) (found-starts p d) (found-step (d + p)))
 
   pub found-later : (p q : ℕ) → p ≤ q → Starts (F p) (F q)
   found-later p q l = let e : (q - p) + p ≡ q = omega arith in rw e at (found-starts p (q - p))
@@ -83,7 +86,8 @@ module _ {C : Type 0} (cells : ℕ → List C) (blank : C) (leads : C → Option
       (by-test (ltb k (length cs)))
 
   -- a cell that is packed in the end is packed by the time that it is passed
-  pub found-passed : leads blank ≡ none → (m q : ℕ) → m ≤ q → m < length (packed cells (F q)) → m < length (packed cells (F m))
+  pub found-passed : leads blank ≡ none → (m q : ℕ) → m ≤ q → m < length (packed cells (F q))
+      → m < length (packed cells (F m))
   found-passed quiet m q l h =
       ⊎-elim
       (λ (b : ltb m (length (packed cells (F m))) ≡ true). ltb-true _ _ b)
@@ -114,7 +118,8 @@ module _ {C : Type 0} (cells : ℕ → List C) (blank : C) (leads : C → Option
       starts-in j (F (suc m)) (F q) (found-later (suc m) q under) (found-takes m j (ap leads same ∙ e))
 
   -- so every reachable node is found
-  pub reach-found : leads blank ≡ none → (q : ℕ) → length (packed cells (F q)) ≤ q → (j : ℕ) → Reach cells blank leads R j → In j (F q)
+  pub reach-found : leads blank ≡ none → (q : ℕ) → length (packed cells (F q)) ≤ q → (j : ℕ) → Reach cells blank leads R j
+      → In j (F q)
   unfolding found
   reach-found quiet q l j (root k e) = starts-in j (F 0) (F q) (found-later 0 q (omega arith)) (visits-has [] R k j e)
   reach-found quiet q l j (cell k {i} r e) = found-closed quiet q l i k j (reach-found quiet q l i r) e

@@ -37,7 +37,8 @@ module _ (ids : List ℕ) (pl : ℕ → ℕ) (apart : (x y : ℕ) → In x ids �
       (same? x y) in
       rw (e, mem-along x o i (λ z k. n z (in-tail z y o k)))
 
-  pub visit-along : (o : List ℕ) (l l′ : Option ℕ) → Inside o → Along l l′ → (visit (map pl o) l′ ≡ map pl (visit o l)) × Inside (visit o l)
+  pub visit-along : (o : List ℕ) (l l′ : Option ℕ) → Inside o → Along l l′
+      → (visit (map pl o) l′ ≡ map pl (visit o l)) × Inside (visit o l)
   unfolding visit
   visit-along o none l′ n a = (ap (λ z. visit (map pl o) z) a, n)
   visit-along o (some x) l′ n a =

@@ -7,7 +7,8 @@ use mathlib.Core.Bool.{true, false}
 use mathlib.Core.List.{List, [], map}
 use mathlib.Core.Option.{none, some}
 use lib.ListN.{length, getD, length-map}
-use Rattle.model.specs.Collection.{Cell, still, value, cells, wordLeads, cellLeads, orderAt, order, rename, settle, copied, collected}
+use Rattle.model.specs.Collection.{Cell, still, value, cells, wordLeads, cellLeads, orderAt, order, rename, settle}
+use Rattle.model.specs.Collection.{copied, collected}
 use Rattle.model.specs.Discovery.{visit, packed, wordsBefore, found}
 use Rattle.model.specs.During.{stage, during}
 use Rattle.model.specs.Headers.{Layout}
@@ -74,7 +75,8 @@ module _ (Y : Layout) (s : State) (h : SoundTests Y s) (p : ℕ) where
       (found-later C (still 0) (cellLeads Y) R 0 p (omega arith))
       (visits-has [] R r i e)
 
-  -- once every word of the copies is passed the order is whole, and the new half, the roots and the record are the collection's
+  -- once every word of the copies is passed the order is whole, and the new half, the roots and the record
+  -- are the collection's
   module _ (over : L ≤ p) where
     pub ended : orderAt Y s p ≡ order Y s
     unfolding orderAt

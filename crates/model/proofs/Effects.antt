@@ -19,7 +19,9 @@ use Rattle.model.specs.Sessions.{machine}
 use Rattle.model.specs.Soundness.{sound}
 use Rattle.model.specs.Values.{untag}
 use Rattle.model.specs.Words.{State}
-use Rattle.model.proofs.CallsPass.{fails-test, done-with, set-integer, set-null, copies, loads, stores, raw-writes, raw-reads, checks, sames, seen, objectSeen, inspects, allocates-now, allocates-then}
+use Rattle.model.proofs.CallsPass.{fails-test, done-with, set-integer, set-null, copies, loads, stores, raw-writes}
+use Rattle.model.proofs.CallsPass.{raw-reads, checks, sames, seen, objectSeen, inspects, allocates-now}
+use Rattle.model.proofs.CallsPass.{allocates-then}
 use Rattle.model.proofs.Deciding.{length-decides, sound-decides}
 use Rattle.model.proofs.Lists.{getD-same}
 use Rattle.model.proofs.PlainAnswers.{no-yes}
@@ -64,7 +66,8 @@ module _ (Y : Layout) where
   pub effects : E.Effects Y (machine Y)
   effects = record {
     fresh = fresh-clears;
-    checkSound = λ s p. rw (checks Y s p) (chosen-true (sound Y s) Says.Sound Says.Unsound (sound-decides Y s) sound-unsound);
+    checkSound =
+        λ s p. rw (checks Y s p) (chosen-true (sound Y s) Says.Sound Says.Unsound (sound-decides Y s) sound-unsound);
     checkUnsound = λ s p.
         rw (checks Y s p) (chosen-false (sound Y s) Says.Sound Says.Unsound (sound-decides Y s) (λ e. sound-unsound (sym e)));
     checkLeaves = λ s p. ap (λ o. o .left) (checks Y s p);

@@ -38,7 +38,8 @@ all-more n (traced vs) u = λ f. under-more n (getD vs f (plain null)) (u f)
 all-more n (untraced ws) u = tt
 
 -- at each place of a list that is set at one
-set-at : {A : Type 0} (P : A → Type 0) (xs : List A) (i k : ℕ) (x d : A) → P x → ((j : ℕ) → P (getD xs j d)) → P (getD (set xs i x) k d)
+set-at : {A : Type 0} (P : A → Type 0) (xs : List A) (i k : ℕ) (x d : A) → P x → ((j : ℕ) → P (getD xs j d))
+    → P (getD (set xs i x) k d)
 set-at P xs i k x d p f =
     ⊎-elim
     (λ (e : k ≡ i).

@@ -1,5 +1,5 @@
--- What a session call on the graph answers and leaves: a property of outcomes that each answer and each change of a call has holds of
--- every call's outcome. One walk through the calls for every such property.
+-- What a session call on the graph answers and leaves: a property of outcomes that each answer and each
+-- change of a call has holds of every call's outcome. One walk through the calls for every such property.
 use Prim.Native.Nat.{ℕ}
 use mathlib.Core.Path.{_≡_, refl}
 use mathlib.Core.Bool.{Bool, true, false}
@@ -14,8 +14,10 @@ use Rattle.model.specs.declared.Refusal.the-variants as Why
 use Rattle.model.specs.declared.Answer.the-variants as Says
 use Rattle.model.specs.declared.Call.the-variants as Ask
 use Rattle.model.specs.Answers.{Outcome, says, refuse}
-use Rattle.model.specs.Graph.{Plain, integer, null, Value, plain, object, Object, traced, untraced, Graph, nth, rootValue, graphLive}
-use Rattle.model.specs.GraphCalls.{graphWithRoot, withObject, grown, sameValue, byKind, onObject, plainAnswer, inspected, graphStep}
+use Rattle.model.specs.Graph.{Plain, integer, null, Value, plain, object, Object, traced, untraced, Graph, nth}
+use Rattle.model.specs.Graph.{rootValue, graphLive}
+use Rattle.model.specs.GraphCalls.{graphWithRoot, withObject, grown, sameValue, byKind, onObject, plainAnswer}
+use Rattle.model.specs.GraphCalls.{inspected, graphStep}
 use Rattle.model.proofs.PlainAnswers.{Plainly, plainly, either-plainly, object-plainly, plain-plainly}
 use Rattle.model.proofs.Tests.{cond-holds}
 
@@ -37,7 +39,8 @@ pub record GraphKept (g : Graph) (P : Outcome Graph → Type 0) : Type 0 where
   pub answered : (a : Answer) → Plainly a → P (says a g)
   pub set-plain : (r : ℕ) (p : Plain) → P (says Says.Done (graphWithRoot g r (plain p)))
   pub copied : (from to : ℕ) → P (says Says.Done (graphWithRoot g to (rootValue g from)))
-  pub loaded : (i f to : ℕ) (vs : List Value) → nth g i ≡ traced vs → P (says Says.Done (graphWithRoot g to (getD vs f (plain null))))
+  pub loaded : (i f to : ℕ) (vs : List Value) → nth g i ≡ traced vs
+      → P (says Says.Done (graphWithRoot g to (getD vs f (plain null))))
   pub stored : (i f from : ℕ) (vs : List Value) → nth g i ≡ traced vs
       → P (says Says.Done (withObject g i (traced (set vs f (rootValue g from)))))
   pub written : (i f x : ℕ) (ws : List ℕ) → P (says Says.Done (withObject g i (untraced (set ws f x))))

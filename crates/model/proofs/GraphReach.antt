@@ -7,7 +7,8 @@ use mathlib.Core.Option.{Option, none, some}
 use lib.ListN.{length, getD, replicate, length-append, length-map, length-replicate, List·getD-map}
 use Rattle.model.specs.Demand3 as D3
 use Rattle.model.specs.Discovery.{packed}
-use Rattle.model.specs.Graph.{null, Value, plain, object, Object, traced, untraced, Graph, nth, rootValue, valueLeads, objectCells, graphCells, itself, totalWords, graphOrder, graphLive}
+use Rattle.model.specs.Graph.{null, Value, plain, object, Object, traced, untraced, Graph, nth, rootValue, valueLeads}
+use Rattle.model.specs.Graph.{objectCells, graphCells, itself, totalWords, graphOrder, graphLive}
 use Rattle.model.proofs.Discovery.{Reach, root, cell, found-distinct, found-reach, reach-found}
 use Rattle.model.proofs.GraphWords.{below, in-below, total-packed}
 use Rattle.model.proofs.Lists.{getD-same}
@@ -39,7 +40,8 @@ module _ (g : Graph) where
   ReachedByCells = Reach (graphCells g) none itself (map valueLeads (g .roots))
 
   reached-reach : (i : ℕ) → ReachedByCells i → D3.Reachable g i
-  reached-reach i (root k e) = D3.fromRoot k (lead-value (rootValue g k) i (sym (List·getD-map valueLeads (g .roots) k (plain null)) ∙ e))
+  reached-reach i (root k e) =
+      D3.fromRoot k (lead-value (rootValue g k) i (sym (List·getD-map valueLeads (g .roots) k (plain null)) ∙ e))
   reached-reach j (cell k {i} r e) =
       let c = cell-value (nth g i) k j e in
       D3.fromField (c .2 .0) (c .0) (reached-reach i r) (c .1) (c .2 .1)

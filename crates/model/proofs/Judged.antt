@@ -33,7 +33,9 @@ use Rattle.model.specs.Soundness.{sound}
 use Rattle.model.specs.Values.{isOdd, isNull}
 use Rattle.model.specs.Words.{State}
 use Rattle.model.proofs.PlainAnswers.{not-room, Plainly, plainly, done-plainly, either-plainly, object-plainly}
-use Rattle.model.proofs.Conditions.{roots-decide, count-decides, range-decides, object-decides, value-decides, kind-decides, field-decides, unsound-decides, called, uncalled, damaged-decides, room-decides}
+use Rattle.model.proofs.Conditions.{roots-decide, count-decides, range-decides, object-decides, value-decides}
+use Rattle.model.proofs.Conditions.{kind-decides, field-decides, unsound-decides, called, uncalled, damaged-decides}
+use Rattle.model.proofs.Conditions.{room-decides}
 use Rattle.model.proofs.Deciding.{shape-decides, other-address}
 use Rattle.model.proofs.Tests.{cond-holds}
 
@@ -44,15 +46,18 @@ pub data Left (Y : Layout) (s : State) (k : Refusal) (t : State) : Type 0 where
 
 -- an outcome by the rows of its call
 pub data Judged (Y : Layout) (s : State) (qs : List Row.Row) : Outcome State → Type 0 where
-  by-row : {o : Outcome State} (k : Refusal) → D1.First qs k → o .answer ≡ Says.Refused k → Left Y s k (o .left) → Judged Y s qs o
+  by-row : {o : Outcome State} (k : Refusal) → D1.First qs k → o .answer ≡ Says.Refused k → Left Y s k (o .left)
+      → Judged Y s qs o
   by-none : {o : Outcome State} → D1.None qs → Plainly (o .answer) → Judged Y s qs o
 
 module _ (Y : Layout) (s : State) where
-  judged-after : (q : Row.Row) (qs : List Row.Row) (o : Outcome State) → (q .applies → ⊥) → Judged Y s qs o → Judged Y s (q ∷ qs) o
+  judged-after : (q : Row.Row) (qs : List Row.Row) (o : Outcome State) → (q .applies → ⊥) → Judged Y s qs o
+      → Judged Y s (q ∷ qs) o
   judged-after q qs o n (by-row k f e l) = by-row k (inr (n, f)) e l
   judged-after q qs o n (by-none m p) = by-none (n, m) p
 
-  pub judged-refuse : (b : Bool) (k : Refusal) (P : Type 0) (qs : List Row.Row) (o : Outcome State) → eqb (number k) 9 ≡ false → Decides b P
+  pub judged-refuse : (b : Bool) (k : Refusal) (P : Type 0) (qs : List Row.Row) (o : Outcome State)
+      → eqb (number k) 9 ≡ false → Decides b P
       → (b ≡ false → Judged Y s qs o)
       → Judged Y s (Row.row k P ∷ qs) (refuse b k s o)
   unfolding refuse

@@ -1,5 +1,5 @@
 -- Changes that keep a state sound: a root set to a value, a field stored.
-use Prim.Native.Nat.{ℕ, _+_, _*_, _-_, _/_, _≤_, _<_}
+use Prim.Native.Nat.{ℕ, _+_, _*_, _-_, _≤_, _<_}
 use native.Mathlib.Omega.{arith}
 use mathlib.Core.Path.{_≡_, sym, ap, _∙_}
 use mathlib.Core.Logic.{_⊎_, inl, inr, ⊎-elim}
@@ -14,7 +14,8 @@ use Rattle.model.specs.Graph.{null}
 use Rattle.model.specs.Headers.{Layout}
 use Rattle.model.specs.Objects.{kind, fieldCount}
 use Rattle.model.specs.Soundness.{tiles, headersFrom, headers, isValue}
-use Rattle.model.specs.Words.{State, withHeap, at, halfWordsOf, halfWords, other, firstOf, firstWord, otherFirst, free}
+use Rattle.model.specs.Words.{State, withHeap, at, halfWordsOf, halfWords, other, firstOf, firstWord, otherFirst}
+use Rattle.model.specs.Words.{free}
 use Rattle.model.proofs.Members.{In}
 use Rattle.model.proofs.Retiling.{tiles-same}
 use Rattle.model.proofs.Shape.{first-in, halves-apart}
@@ -27,7 +28,8 @@ module _ (Y : Layout) (s : State) (h : SoundTests Y s) where
   tile i m = headers-tile Y (s .heap) (free s) (free s - firstWord s) (firstWord s) i (h .tiled) m
 
   -- a field's place is no header's
-  pub field-no-header : (i f j : ℕ) → In i (headers Y s) → f < fieldCount Y (s .heap) i → In j (headers Y s) → j ≡ i + 1 + f → ⊥
+  pub field-no-header : (i f j : ℕ) → In i (headers Y s) → f < fieldCount Y (s .heap) i → In j (headers Y s) → j ≡ i + 1 + f
+      → ⊥
   field-no-header i f j a l b e =
       let g = headers-apart Y (s .heap) (free s) (free s - firstWord s) (firstWord s) i j (h .tiled) a b (omega arith) in
       omega arith
@@ -145,7 +147,8 @@ module _ (Y : Layout) (s : State) (h : SoundTests Y s) where
       rw (getD-set-other (s .heap) (i + 1 + f) (j + 1 + g) w 0 n) (h .values j g b k x))
       (same? (j + 1 + g) (i + 1 + f)))
 
-  pub word-headers : (i f w : ℕ) → In i (headers Y s) → f < fieldCount Y (s .heap) i → headers Y (withWord s (i + 1 + f) w) ≡ headers Y s
+  pub word-headers : (i f w : ℕ) → In i (headers Y s) → f < fieldCount Y (s .heap) i
+      → headers Y (withWord s (i + 1 + f) w) ≡ headers Y s
   word-headers i f w m l =
       with-headers (set (s .heap) (i + 1 + f) w) (length-set (s .heap) (i + 1 + f) w)
       (λ j b. getD-set-other (s .heap) (i + 1 + f) j w 0 (field-no-header i f j m l b))

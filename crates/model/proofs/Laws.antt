@@ -71,7 +71,8 @@ window-open Y r s i n e =
 module _ (H : List ℕ) (i : Index) (n f : ℕ) where
   pub word-from-count : n ≤ f → windowWord H (Place.Object i n) f ≡ Says.Refused Why.Field
   unfolding windowWord
-  word-from-count l = let x = length-take n (drop (i .0 + 1) H) in rw (le-leb (length (take n (drop (i .0 + 1) H))) f (omega arith))
+  word-from-count l =
+      let x = length-take n (drop (i .0 + 1) H) in rw (le-leb (length (take n (drop (i .0 + 1) H))) f (omega arith))
 
   pub word-past-end : length H ≤ i .0 + 1 + f → windowWord H (Place.Object i n) f ≡ Says.Refused Why.Field
   unfolding windowWord
@@ -81,7 +82,8 @@ module _ (H : List ℕ) (i : Index) (n f : ℕ) where
       rw (le-leb (length (take n (drop (i .0 + 1) H))) f (omega arith))
 
   -- j is the word's index, however it is reckoned
-  pub word-itself : f < n → i .0 + 1 + f < length H → (j : ℕ) → j ≡ i .0 + 1 + f → windowWord H (Place.Object i n) f ≡ Says.Number (at H j)
+  pub word-itself : f < n → i .0 + 1 + f < length H → (j : ℕ) → j ≡ i .0 + 1 + f
+      → windowWord H (Place.Object i n) f ≡ Says.Number (at H j)
   unfolding windowWord
   word-itself l m j e =
       let x = length-take n (drop (i .0 + 1) H) in

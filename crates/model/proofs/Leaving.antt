@@ -1,5 +1,5 @@
--- What a session call leaves: a property that a state has, and that each change which a call can make keeps, holds of what any
--- call leaves. One walk through the calls for every such property.
+-- What a session call leaves: a property that a state has, and that each change which a call can make
+-- keeps, holds of what any call leaves. One walk through the calls for every such property.
 use Prim.Native.Nat.{ℕ, _≤_, _<_}
 use mathlib.Core.Path.{_≡_}
 use mathlib.Core.Bool.{Bool, true, false, not}
@@ -44,7 +44,8 @@ pub record Kept (Y : Layout) (s : State) (P : State → Type 0) : Type 0 where
   pub integer : (r : ℕ) (v : ℤ) → inRange v ≡ true → P (withRoot s r (tag v))
   pub null : (r : ℕ) → P (withRoot s r 0)
   pub copied : (from to : ℕ) → from < length (s .roots) → P (withRoot s to (rootWord s from))
-  pub loaded : (r f to : ℕ) → HasField Y s Traced r f → P (withRoot s to (at (s .heap) (fieldIndex (index Y (rootWord s r)) f)))
+  pub loaded : (r f to : ℕ) → HasField Y s Traced r f
+      → P (withRoot s to (at (s .heap) (fieldIndex (index Y (rootWord s r)) f)))
   pub stored : (r f from : ℕ) → HasField Y s Traced r f → from < length (s .roots)
       → P (withWord s (fieldIndex (index Y (rootWord s r)) f) (rootWord s from))
   pub written : (r f x : ℕ) → HasField Y s Untraced r f → P (withWord s (fieldIndex (index Y (rootWord s r)) f) x)
@@ -56,7 +57,8 @@ pub record Kept (Y : Layout) (s : State) (P : State → Type 0) : Type 0 where
 data Leaves (P : State → Type 0) : Outcome State → Type 0 where
   leaves : {o : Outcome State} → P (o .left) → Leaves P o
 
-refuse-leaves : (P : State → Type 0) (b : Bool) (k : Refusal) (s : State) (o : Outcome State) → P s → (b ≡ false → Leaves P o)
+refuse-leaves : (P : State → Type 0) (b : Bool) (k : Refusal) (s : State) (o : Outcome State) → P s
+    → (b ≡ false → Leaves P o)
     → Leaves P (refuse b k s o)
 unfolding refuse
 refuse-leaves P b k s o p f = cond-holds (Leaves P) b _ o (λ e. leaves p) f
@@ -69,9 +71,11 @@ module _ (Y : Layout) (s : State) (P : State → Type 0) (h : Kept Y s P) where
   after : (b : Bool) (k : Refusal) (o : Outcome State) → (b ≡ false → Leaves P o) → Leaves P (refuse b k s o)
   after b k o f = refuse-leaves P b k s o (h .itself) f
 
-  on-roots : (named : List ℕ) (o : Outcome State) → (badShape s ≡ false → noRoots (length (s .roots)) named ≡ false → Leaves P o)
+  on-roots : (named : List ℕ) (o : Outcome State)
+      → (badShape s ≡ false → noRoots (length (s .roots)) named ≡ false → Leaves P o)
       → Leaves P (onRoots named s o)
-  on-roots named o f = after (badShape s) Why.Shape _ (λ a. after (noRoots (length (s .roots)) named) Why.Root o (λ b. f a b))
+  on-roots named o f =
+      after (badShape s) Why.Shape _ (λ a. after (noRoots (length (s .roots)) named) Why.Root o (λ b. f a b))
 
   on-field : (k : Kind) (r f : ℕ) (o : Outcome State) → r < length (s .roots) → (HasField Y s k r f → Leaves P o)
       → Leaves P (onField Y k (rootWord s r) f s o)
@@ -90,7 +94,8 @@ module _ (Y : Layout) (s : State) (P : State → Type 0) (h : Kept Y s P) where
   step-leaves : (c : Call) → Leaves P (step Y c s)
   unfolding step Calls.collect Calls.check Calls.allocate Calls.setInteger Calls.setNull Calls.copy Calls.load Calls.store
       Calls.rawRead Calls.rawWrite Calls.same Calls.inspect
-  step-leaves Ask.Collect = on-roots [] _ (λ a b. after _ Why.Damaged _ (λ c. leaves (h .collectedNow (not-false (sound Y s) c))))
+  step-leaves Ask.Collect =
+      on-roots [] _ (λ a b. after _ Why.Damaged _ (λ c. leaves (h .collectedNow (not-false (sound Y s) c))))
   step-leaves Ask.Check = on-roots [] _ (λ a b. leaves (h .itself))
   step-leaves (Ask.Allocate k n r) =
       on-roots (r ∷ []) _ (λ a b. after _ Why.Count _ (λ c.

@@ -8,7 +8,8 @@ use lib.ListN.{length, getD, set, replicate, length-set}
 use lib.Seq.{sets, getD-set-same, getD-set-other}
 use Rattle.model.specs.Words.{at}
 
-pub getD-map : {A B : Type 0} (g : A → B) (xs : List A) (k : ℕ) (d : A) (e : B) → k < length xs → getD (map g xs) k e ≡ g (getD xs k d)
+pub getD-map : {A B : Type 0} (g : A → B) (xs : List A) (k : ℕ) (d : A) (e : B) → k < length xs
+    → getD (map g xs) k e ≡ g (getD xs k d)
 getD-map g [] k d e l = absurd (omega arith)
 getD-map g (x ∷ xs) zero d e l = refl
 getD-map g (x ∷ xs) (suc k) d e l = getD-map g xs k d e (omega arith)
@@ -27,9 +28,11 @@ getD-same (suc n) (suc i) a = getD-same n i a
 
 pub sets-before : (l : List ℕ) (i : ℕ) (vs : List ℕ) (j : ℕ) → j < i → at (sets l i vs) j ≡ at l j
 sets-before l i [] j b = refl
-sets-before l i (v ∷ vs) j b = sets-before (set l i v) (suc i) vs j (omega arith) ∙ getD-set-other l i j v 0 (λ e. omega arith)
+sets-before l i (v ∷ vs) j b =
+    sets-before (set l i v) (suc i) vs j (omega arith) ∙ getD-set-other l i j v 0 (λ e. omega arith)
 
-pub sets-in : (l : List ℕ) (i : ℕ) (vs : List ℕ) (k : ℕ) → i + length vs ≤ length l → k < length vs → at (sets l i vs) (i + k) ≡ at vs k
+pub sets-in : (l : List ℕ) (i : ℕ) (vs : List ℕ) (k : ℕ) → i + length vs ≤ length l → k < length vs
+    → at (sets l i vs) (i + k) ≡ at vs k
 sets-in l i [] k f b = absurd (omega arith)
 sets-in l i (v ∷ vs) zero f b =
     rw add-zero (sets-before (set l i v) (suc i) vs i (omega arith) ∙ getD-set-same l i v 0 (omega arith))

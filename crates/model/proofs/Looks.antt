@@ -155,7 +155,8 @@ module _ (Y : Layout) (s : State) (h : SoundTests Y s) where
   old : From s
   old q l = L.oldRoot q l
 
-  set-from : (R : List ℕ) (r w : ℕ) → length R ≡ length (s .roots) → ((q : ℕ) → q < length (s .roots) → L.Origin Y s (at R q))
+  set-from : (R : List ℕ) (r w : ℕ) → length R ≡ length (s .roots)
+      → ((q : ℕ) → q < length (s .roots) → L.Origin Y s (at R q))
       → L.Origin Y s w → (q : ℕ) → q < length (s .roots) → L.Origin Y s (at (set R r w) q)
   set-from R r w e f o q l =
       ⊎-elim
@@ -173,7 +174,8 @@ module _ (Y : Layout) (s : State) (h : SoundTests Y s) where
 
   placed-then : (k : Kind) (n r : ℕ) → From (placed Y k n r (collected Y s))
   unfolding placed
-  placed-then k n r = set-from (collected Y s .roots) r (address Y (free (collected Y s))) (new-roots Y s h) collected-from L.placedThen
+  placed-then k n r =
+      set-from (collected Y s .roots) r (address Y (free (collected Y s))) (new-roots Y s h) collected-from L.placedThen
 
   enters : (c : Call) → From (step Y c s .left)
   enters = step-left Y s From (record {

@@ -1,5 +1,5 @@
--- The order is the first meetings along the roots and then along the cells of the order itself, and the only list of reachable
--- nodes that is.
+-- The order is the first meetings along the roots and then along the cells of the order itself, and the
+-- only list of reachable nodes that is.
 use Prim.Native.Nat.{ℕ, zero, suc, _+_, _≤_, _<_}
 use native.Mathlib.Omega.{arith}
 use mathlib.Core.Path.{_≡_, refl, sym, ap, _∙_, subst}

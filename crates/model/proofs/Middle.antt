@@ -36,7 +36,8 @@ use Rattle.model.proofs.Values.{value-header, cell-leads}
 use Rattle.model.proofs.Visits.{Starts}
 
 -- one half lies before the other
-pub halves-ordered : (s : State) → (firstWord s + halfWords (s .heap) ≤ otherFirst s) ⊎ (otherFirst s + halfWords (s .heap) ≤ firstWord s)
+pub halves-ordered : (s : State)
+    → (firstWord s + halfWords (s .heap) ≤ otherFirst s) ⊎ (otherFirst s + halfWords (s .heap) ≤ firstWord s)
 halves-ordered s = go (s .«record» .half) (halfWords (s .heap))
   where
     go : (f : Half) (S : ℕ) → (firstOf S f + S ≤ firstOf S (other f)) ⊎ (firstOf S (other f) + S ≤ firstOf S f)
@@ -87,17 +88,20 @@ module _ (Y : Layout) (H : List ℕ) where
       → getD (cells Y H i) (suc f) (still 0) ≡ fieldCell (kind Y H i) (at H (i + 1 + f))
   field-cell i f l b =
       let n = fields-length Y H i l in
-      getD-map (fieldCell (kind Y H i)) (fieldWords Y H i) f 0 (still 0) (omega arith) ∙ ap (fieldCell (kind Y H i)) (field-at Y H i f b)
+      getD-map (fieldCell (kind Y H i)) (fieldWords Y H i) f 0 (still 0) (omega arith)
+      ∙ ap (fieldCell (kind Y H i)) (field-at Y H i f b)
 
   -- are those of its cells
-  pub cell-word : (i d : ℕ) → i + size Y H i ≤ length H → d < size Y H i → oldWord (getD (cells Y H i) d (still 0)) ≡ at H (i + d)
+  pub cell-word : (i d : ℕ) → i + size Y H i ≤ length H → d < size Y H i
+      → oldWord (getD (cells Y H i) d (still 0)) ≡ at H (i + d)
   cell-word i zero l b = ap (at H) (sym (add-zero i))
   cell-word i (suc f) l b =
       ap oldWord (field-cell i f l (omega arith)) ∙ old-field (kind Y H i) (at H (i + 1 + f)) ∙ ap (at H) (omega arith)
 
   pub packed-snoc : (o : List ℕ) (i : ℕ) → packed (cells Y H) (o ++ (i ∷ [])) ≡ packed (cells Y H) o ++ cells Y H i
   unfolding packed
-  packed-snoc o i = packed-append (cells Y H) o (i ∷ []) ∙ ap (λ (z : List Cell). packed (cells Y H) o ++ z) (append-nil (cells Y H i))
+  packed-snoc o i =
+      packed-append (cells Y H) o (i ∷ []) ∙ ap (λ (z : List Cell). packed (cells Y H) o ++ z) (append-nil (cells Y H i))
 
 -- ---- the objects of a sound heap
 
@@ -173,5 +177,7 @@ module _ (Y : Layout) (s : State) where
       ap (found (cells Y (s .heap)) (still 0) (cellLeads Y) (map (wordLeads Y) (s .roots))) (sym e)
       ∙ found-still (cells Y (s .heap)) (still 0) (cellLeads Y) (map (wordLeads Y) (s .roots)) refl q (p - q) l
 
-  pub during-still : (q p : ℕ) → length (packed (cells Y (s .heap)) (orderAt Y s q)) ≤ q → q ≤ p → during Y s q ≡ during Y s p
-  during-still q p l b = stage-still (orderAt Y s q) q p l b ∙ ap (λ (o : List ℕ). stage Y s o p) (sym (order-still q p l b))
+  pub during-still : (q p : ℕ) → length (packed (cells Y (s .heap)) (orderAt Y s q)) ≤ q → q ≤ p
+      → during Y s q ≡ during Y s p
+  during-still q p l b =
+      stage-still (orderAt Y s q) q p l b ∙ ap (λ (o : List ℕ). stage Y s o p) (sym (order-still q p l b))

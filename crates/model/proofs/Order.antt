@@ -130,7 +130,8 @@ module _ (Y : Layout) (s : State) (h : SoundTests Y s) where
       subst (D.Near Y s (suc d′)) (c .to) (D.byField i (c .field) d′ (nearby-near d′ i n) (c .traced) (c .under) (c .pointer))
 
   near-nearby : (d j : ℕ) → D.Near Y s d j → Nearby d j
-  near-nearby d j (D.byRoot r d′ l p) = near-root r d′ (getD-map (wordLeads Y) (s .roots) r 0 none l ∙ address-leads Y (at (s .roots) r) p)
+  near-nearby d j (D.byRoot r d′ l p) =
+      near-root r d′ (getD-map (wordLeads Y) (s .roots) r 0 none l ∙ address-leads Y (at (s .roots) r) p)
   near-nearby d j (D.byField i f d′ n k l p) =
       let m = near-nearby d′ i n in
       let t = header-tile i (reached-header i (nearby-reached d′ i m)) in

@@ -13,7 +13,8 @@ use borrow.Author.Tests.{ltb-true, ltb-false, eqb-true, eq-eqb, ne-eqb}
 use Rattle.model.specs.Collection.{cells}
 use Rattle.model.specs.Discovery.{packed, wordsBefore}
 use Rattle.model.specs.Words.{at}
-use Rattle.model.proofs.Members.{In, Out, in-nil, in-head, in-tail, in-self, in-cons, in-other, out-cons, in-out, Distinct}
+use Rattle.model.proofs.Members.{In, Out, in-nil, in-head, in-tail, in-self, in-cons, in-other, out-cons, in-out}
+use Rattle.model.proofs.Members.{Distinct}
 use Rattle.model.proofs.Tests.{by-test}
 use Rattle.model.proofs.Visits.{Starts}
 
@@ -146,7 +147,8 @@ in-remove i j (x ∷ xs) h n =
     (by-test (eqb i x))
 
 module _ {C : Type 0} (cells : ℕ → List C) where
-  pub packed-remove : (i : ℕ) (hs : List ℕ) → In i hs → length (packed cells hs) ≡ length (cells i) + length (packed cells (remove i hs))
+  pub packed-remove : (i : ℕ) (hs : List ℕ) → In i hs
+      → length (packed cells hs) ≡ length (cells i) + length (packed cells (remove i hs))
   unfolding remove packed
   packed-remove i [] h = in-nil i h
   packed-remove i (x ∷ xs) h =
@@ -158,7 +160,8 @@ module _ {C : Type 0} (cells : ℕ → List C) where
       (by-test (eqb i x))
 
   -- a list of distinct nodes of another packs no more cells than it
-  pub packed-within : (o hs : List ℕ) → Distinct o → ((i : ℕ) → In i o → In i hs) → length (packed cells o) ≤ length (packed cells hs)
+  pub packed-within : (o hs : List ℕ) → Distinct o → ((i : ℕ) → In i o → In i hs)
+      → length (packed cells o) ≤ length (packed cells hs)
   unfolding packed
   packed-within [] hs u f = omega arith
   packed-within (i ∷ o) hs u f =

@@ -43,7 +43,8 @@ use Rattle.model.proofs.Tests.{by-test, decide, same?}
 -- ---- each change leaves one state
 
 -- two runs of one length that hold the same at r, and elsewhere
-same-at : (xs ys : List ℕ) (r : ℕ) → length xs ≡ length ys → at xs r ≡ at ys r → ((q : ℕ) → (q ≡ r → ⊥) → at xs q ≡ at ys q) → xs ≡ ys
+same-at : (xs ys : List ℕ) (r : ℕ) → length xs ≡ length ys → at xs r ≡ at ys r → ((q : ℕ) → (q ≡ r → ⊥) → at xs q ≡ at ys q)
+    → xs ≡ ys
 same-at xs ys r n e f =
     ext-getD 0 xs ys n
     (λ q l. ⊎-elim (λ (z : q ≡ r). subst (λ i. at xs i ≡ at ys i) (sym z) e) (λ (d : q ≡ r → ⊥). f q d) (same? q r))
@@ -104,11 +105,13 @@ module _ (Y : Layout) where
 
   module _ (M N : Machine) (m : E.Meets Y M) (n : E.Meets Y N) where
     -- "done" with one change
-    both-done : (o o′ : Outcome State) (P : State → Type 0) → ((t t′ : State) → P t → P t′ → t ≡ t′) → E.Done o P → E.Done o′ P → o ≡ o′
+    both-done : (o o′ : Outcome State) (P : State → Type 0) → ((t t′ : State) → P t → P t′ → t ≡ t′) → E.Done o P
+        → E.Done o′ P → o ≡ o′
     both-done o o′ P one d d′ = same-outcome o o′ (d .0 ∙ sym (d′ .0)) (one (o .left) (o′ .left) (d .1) (d′ .1))
 
     -- the same answer, and everything as it was
-    both-say : (o o′ : Outcome State) (s : State) (a : Answer) → o .answer ≡ a → o′ .answer ≡ a → o .left ≡ s → o′ .left ≡ s → o ≡ o′
+    both-say : (o o′ : Outcome State) (s : State) (a : Answer) → o .answer ≡ a → o′ .answer ≡ a → o .left ≡ s → o′ .left ≡ s
+        → o ≡ o′
     both-say o o′ s a e e′ l l′ = same-outcome o o′ (e ∙ sym e′) (l ∙ sym l′)
 
     -- refused alike
@@ -124,7 +127,8 @@ module _ (Y : Layout) where
         let b = n .one .session c s .exactly Why.Room .1 f′ in
         same-outcome (M .step c s) (N .step c s) (a ∙ sym b) (m .one .collects c s a ∙ sym (n .one .collects c s b))
 
-    inspect-same : (r : ℕ) (s : State) → E.Passes Y (Ask.Inspect r) s → M .step (Ask.Inspect r) s ≡ N .step (Ask.Inspect r) s
+    inspect-same : (r : ℕ) (s : State) → E.Passes Y (Ask.Inspect r) s
+        → M .step (Ask.Inspect r) s ≡ N .step (Ask.Inspect r) s
     inspect-same r s p =
         let x = m .effects in
         let y = n .effects in
@@ -183,9 +187,12 @@ module _ (Y : Layout) where
         (decide (spare s) (f + 1))
     passed-same (Ask.SetInteger r v) s p =
         both-done _ _ _ (one-root s r _) (m .effects .setInteger r v s p) (n .effects .setInteger r v s p)
-    passed-same (Ask.SetNull r) s p = both-done _ _ _ (one-root s r _) (m .effects .setNull r s p) (n .effects .setNull r s p)
-    passed-same (Ask.Copy from to) s p = both-done _ _ _ (one-root s to _) (m .effects .copy from to s p) (n .effects .copy from to s p)
-    passed-same (Ask.Load r f to) s p = both-done _ _ _ (one-root s to _) (m .effects .load r f to s p) (n .effects .load r f to s p)
+    passed-same (Ask.SetNull r) s p =
+        both-done _ _ _ (one-root s r _) (m .effects .setNull r s p) (n .effects .setNull r s p)
+    passed-same (Ask.Copy from to) s p =
+        both-done _ _ _ (one-root s to _) (m .effects .copy from to s p) (n .effects .copy from to s p)
+    passed-same (Ask.Load r f to) s p =
+        both-done _ _ _ (one-root s to _) (m .effects .load r f to s p) (n .effects .load r f to s p)
     passed-same (Ask.Store r f from) s p =
         both-done _ _ _ (one-word s _ _) (m .effects .store r f from s p) (n .effects .store r f from s p)
     passed-same (Ask.RawRead r f) s p =

@@ -140,7 +140,8 @@ module _ (Y : Layout) (law : WritesBoth Y) (s : State) (h : SoundTests Y s) (k :
       (value-more Y (headers Y s) (free s ∷ []) (at (s .roots) q) (h .roots q l)))
       (same? q r)
 
-  place-value : (i f : ℕ) → In i (headers Y s ++ (free s ∷ [])) → kind Y (s⁺ .heap) i ≡ Traced → f < fieldCount Y (s⁺ .heap) i
+  place-value : (i f : ℕ) → In i (headers Y s ++ (free s ∷ [])) → kind Y (s⁺ .heap) i ≡ Traced
+      → f < fieldCount Y (s⁺ .heap) i
       → isValue Y (headers Y s ++ (free s ∷ [])) (at (s⁺ .heap) (i + 1 + f)) ≡ true
   place-value i f m q l =
       ⊎-elim

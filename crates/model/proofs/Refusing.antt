@@ -16,7 +16,8 @@ pub said : {r : Answered} {a : Answer} {q : Record} {o : Outcome State} (H R : L
 said H R e f = ap (λ (x : Answered). outcomeOf x H R) e ∙ f
 
 -- a refusal whose test holds is given; one whose test fails leaves what follows
-pub applies : {b : Bool} {k : Refusal} {s : State} (next : Outcome State) → b ≡ true → says (Says.Refused k) s ≡ refuse b k s next
+pub applies : {b : Bool} {k : Refusal} {s : State} (next : Outcome State) → b ≡ true
+    → says (Says.Refused k) s ≡ refuse b k s next
 unfolding refuse
 applies next e = rw e
 

@@ -51,7 +51,8 @@ module _ (Y : Layout) where
   abbrev pub Agrees : Outcome State → Outcome Graph → Type 0
   Agrees o q = (o .answer ≡ q .answer) × Represents Y (o .left) (q .left)
 
-  pub refuse-agrees : (b c : Bool) (k : Refusal) (s : State) (g : Graph) (o : Outcome State) (q : Outcome Graph) → Represents Y s g → b ≡ c
+  pub refuse-agrees : (b c : Bool) (k : Refusal) (s : State) (g : Graph) (o : Outcome State) (q : Outcome Graph)
+      → Represents Y s g → b ≡ c
       → (b ≡ false → Agrees o q) → Agrees (refuse b k s o) (refuse c k g q)
   unfolding refuse
   refuse-agrees true true k s g o q m e f = (refl, m)

@@ -13,11 +13,13 @@ use Rattle.model.specs.Soundness.{tiles, headersFrom}
 use Rattle.model.specs.Words.{at}
 use Rattle.model.proofs.Members.{In, in-tail, in-self}
 use Rattle.model.proofs.Tests.{by-test}
-use Rattle.model.proofs.Tiling.{tiles-step, tiles-le, tiles-more, tiles-here, headers-more, headers-end, headers-here}
+use Rattle.model.proofs.Tiling.{tiles-step, tiles-le, tiles-more, tiles-here, headers-more, headers-end}
+use Rattle.model.proofs.Tiling.{headers-here}
 
 module _ (Y : Layout) where
   -- a tiling is read off its headers alone
-  pub tiles-same : (H H′ : List ℕ) (e n i : ℕ) → tiles Y H e n i ≡ true → ((j : ℕ) → In j (headersFrom Y H e n i) → at H′ j ≡ at H j)
+  pub tiles-same : (H H′ : List ℕ) (e n i : ℕ) → tiles Y H e n i ≡ true
+      → ((j : ℕ) → In j (headersFrom Y H e n i) → at H′ j ≡ at H j)
       → (tiles Y H′ e n i ≡ true) × (headersFrom Y H′ e n i ≡ headersFrom Y H e n i)
   unfolding tiles headersFrom
   tiles-same H H′ e zero i t f = (t, refl)
@@ -44,10 +46,12 @@ module _ (Y : Layout) where
   one-more H′ e e′ n k q =
       let l : e < e′ = omega arith in (
         tiles-more Y H′ e′ n e l k (rw (← q) (tiles-here Y H′ e′ n)),
-        headers-more Y H′ e′ n e (lt-ltb e e′ l) ∙ ap (λ x. e ∷ headersFrom Y H′ e′ n x) (sym q) ∙ ap (λ x. e ∷ x) (headers-here Y H′ e′ n),
+        headers-more Y H′ e′ n e (lt-ltb e e′ l) ∙ ap (λ x. e ∷ headersFrom Y H′ e′ n x) (sym q)
+            ∙ ap (λ x. e ∷ x) (headers-here Y H′ e′ n),
       )
 
-  pub tiles-snoc : (H H′ : List ℕ) (e e′ n n′ i : ℕ) → tiles Y H e n i ≡ true → ((j : ℕ) → In j (headersFrom Y H e n i) → at H′ j ≡ at H j)
+  pub tiles-snoc : (H H′ : List ℕ) (e e′ n n′ i : ℕ) → tiles Y H e n i ≡ true
+      → ((j : ℕ) → In j (headersFrom Y H e n i) → at H′ j ≡ at H j)
       → Y .isHeader (at H′ e) ≡ true → e′ ≡ e + size Y H′ e → n < n′
       → (tiles Y H′ e′ n′ i ≡ true) × (headersFrom Y H′ e′ n′ i ≡ headersFrom Y H e n i ++ (e ∷ []))
   unfolding tiles headersFrom

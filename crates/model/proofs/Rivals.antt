@@ -216,8 +216,8 @@ constant-breaks-3 d =
     unrefused : List·Memᴰ D3.noRoom (Says.Done ∷ []) → ⊥
     unrefused m = ⊎-elim (λ (e : D3.noRoom ≡ Says.Done). done-plainly Why.Room (sym e)) (λ x. List·Memᴰ·not-nil x) (List·Memᴰ·cases-cons m)
 
--- collects once, from half A, and pretends later: in half B it says that all words used are live, and an allocation that does not
--- fit is "no room"
+-- collects once, from half A, and pretends later: in half B it says that all words used are live, and an
+-- allocation that does not fit is "no room"
 abbrev inB : State → Bool
 inB s = eqb (firstOf 1 (s .«record» .half)) 2
 

@@ -1,5 +1,5 @@
 -- A session in a heap and in the graph that it stands for, call by call and for lists of calls.
-use Prim.Native.Nat.{ℕ, zero, suc, _-_, _/_, _≤_}
+use Prim.Native.Nat.{ℕ, zero, suc, _-_, _≤_}
 use native.Mathlib.Omega.{arith}
 use mathlib.Core.Path.{_≡_, refl, sym, ap, _∙_}
 use mathlib.Core.Logic.{_⊎_, inr, ⊎-elim}
@@ -30,7 +30,8 @@ use Rattle.model.proofs.GraphLeaving.{ofGraph}
 use Rattle.model.proofs.Lengths.{step-lengths}
 use Rattle.model.specs.Represents.{Represents}
 use Rattle.model.proofs.Represents.{parts, Agrees}
-use Rattle.model.proofs.CallsOnRoots.{check-agrees, setInteger-agrees, setNull-agrees, copy-agrees, same-agrees, inspect-agrees}
+use Rattle.model.proofs.CallsOnRoots.{check-agrees, setInteger-agrees, setNull-agrees, copy-agrees, same-agrees}
+use Rattle.model.proofs.CallsOnRoots.{inspect-agrees}
 use Rattle.model.proofs.Tests.{by-test, never}
 
 cons-same : {A : Type 0} {a b : A} {xs ys : List A} → a ≡ b → xs ≡ ys → a ∷ xs ≡ b ∷ ys
@@ -64,7 +65,8 @@ is-no-room (Says.Refused k) e = ap Says.Refused (refusal-room k e)
 
 module _ (Y : Layout) (law : WritesBoth Y) where
   -- every call: "no room", or heap and graph agree
-  pub step-goes : (c : Call) (s : State) (g : Graph) → Represents Y s g → Full Y c s g (step Y c s) ⊎ Agrees Y (step Y c s) (graphStep c g)
+  pub step-goes : (c : Call) (s : State) (g : Graph) → Represents Y s g
+      → Full Y c s g (step Y c s) ⊎ Agrees Y (step Y c s) (graphStep c g)
   step-goes Ask.Collect s g m = inr (collect-agrees Y s g m)
   step-goes Ask.Check s g m = inr (check-agrees Y s g m)
   step-goes (Ask.Allocate k n r) s g m = allocate-agrees Y law k n r s g m
@@ -84,7 +86,8 @@ module _ (Y : Layout) (law : WritesBoth Y) where
   step-agrees c s g m f = ⊎-elim (λ (u : Full Y c s g (step Y c s)). absurd (f (u .answers))) (λ a. a) (step-goes c s g m)
 
   -- "no room" in the larger of two heaps for one graph is "no room" in the smaller
-  room-smaller : (c : Call) (s s⁺ : State) (g : Graph) → Represents Y s g → Represents Y s⁺ g → halfWords (s .heap) ≤ halfWords (s⁺ .heap)
+  room-smaller : (c : Call) (s s⁺ : State) (g : Graph) → Represents Y s g → Represents Y s⁺ g
+      → halfWords (s .heap) ≤ halfWords (s⁺ .heap)
       → step Y c s⁺ .answer ≡ D3.noRoom → step Y c s .answer ≡ D3.noRoom
   room-smaller c s s⁺ g m m⁺ l e =
       ⊎-elim
@@ -144,7 +147,8 @@ module _ (Y : Layout) (law : WritesBoth Y) where
           (step-goes c s g m)
 
   -- and its answers are the graph's or "no room": none is SHAPE or DAMAGED
-  pub session-refuses : (cs : List Call) (s : State) (g : Graph) → Represents Y s g → (k : Refusal) → (k ≡ Why.Room → ⊥) → ofGraph k ≡ false
+  pub session-refuses : (cs : List Call) (s : State) (g : Graph) → Represents Y s g → (k : Refusal) → (k ≡ Why.Room → ⊥)
+      → ofGraph k ≡ false
       → List·Memᴰ (Says.Refused k) (answers (machine Y) cs s) → ⊥
   unfolding answers
   session-refuses [] s g m k n o x = List·Memᴰ·not-nil x

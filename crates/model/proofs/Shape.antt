@@ -88,7 +88,8 @@ pub halves-apart : (s : State) (i : ℕ) → otherFirst s ≤ i → i < otherFir
     → (i < firstWord s) ⊎ (firstWord s + halfWords (s .heap) ≤ i)
 halves-apart s = go (s .«record» .half) (halfWords (s .heap))
   where
-    go : (f : Half) (S i : ℕ) → firstOf S (other f) ≤ i → i < firstOf S (other f) + S → (i < firstOf S f) ⊎ (firstOf S f + S ≤ i)
+    go : (f : Half) (S i : ℕ) → firstOf S (other f) ≤ i → i < firstOf S (other f) + S
+        → (i < firstOf S f) ⊎ (firstOf S f + S ≤ i)
     go A S i l k = inr (omega arith)
     go B S i l k = inl (omega arith)
 
@@ -97,7 +98,8 @@ pub halves-cover : (s : State) → Shaped s → (i : ℕ) → 1 ≤ i → i < le
     → ((firstWord s ≤ i) × (i < firstWord s + halfWords (s .heap))) ⊎ ((otherFirst s ≤ i) × (i < otherFirst s + halfWords (s .heap)))
 halves-cover s h i p l = go (s .«record» .half)
   where
-    go : (f : Half) → ((firstOf (halfWords (s .heap)) f ≤ i) × (i < firstOf (halfWords (s .heap)) f + halfWords (s .heap))) ⊎
+    go : (f : Half)
+        → ((firstOf (halfWords (s .heap)) f ≤ i) × (i < firstOf (halfWords (s .heap)) f + halfWords (s .heap))) ⊎
         ((firstOf (halfWords (s .heap)) (other f) ≤ i) × (i < firstOf (halfWords (s .heap)) (other f) + halfWords (s .heap)))
     go A =
         ⊎-elim (λ (k : i < halfWords (s .heap) + 1). inl (omega arith))

@@ -35,7 +35,8 @@ zeros-at H i e j m h l n =
     let z = all-at isNull (span H i e) 0 (j - i) h (omega arith) in
     rw (span-at H i e (j - i) (omega arith), s) at (eqb-true (getD (span H i e) (j - i) 0) 0 z)
 
-pub at-zeros : (H : List ℕ) (i e : ℕ) → i ≤ e → e ≤ length H → ((j : ℕ) → i ≤ j → j < e → at H j ≡ 0) → all isNull (span H i e) ≡ true
+pub at-zeros : (H : List ℕ) (i e : ℕ) → i ≤ e → e ≤ length H → ((j : ℕ) → i ≤ j → j < e → at H j ≡ 0)
+    → all isNull (span H i e) ≡ true
 at-zeros H i e l m f =
     let w = span-length H i e l m in
     at-all isNull (span H i e) 0

@@ -4,7 +4,8 @@ use native.Mathlib.Omega.{arith}
 use mathlib.Core.Path.{_≡_, refl, sym, ap, _∙_, subst}
 use mathlib.Core.Logic.{⊎-elim}
 use mathlib.Core.List.{List, [], _∷_, _++_, map}
-use lib.ListN.{length, getD, take, drop, set, length-append, length-take, length-drop, length-set, length-map, List·getD-append}
+use lib.ListN.{length, getD, take, drop, set, length-append, length-take, length-drop, length-set, length-map}
+use lib.ListN.{List·getD-append}
 use lib.Seq.{getD-set-same, getD-set-other, getD-take, getD-drop, getD-append-add}
 use borrow.Author.Tests.{ne-eqb}
 use Rattle.model.specs.Collection.{Cell, still, filled, cells, settle}
@@ -14,7 +15,8 @@ use Rattle.model.specs.Headers.{Layout}
 use Rattle.model.specs.Objects.{address}
 use Rattle.model.specs.Soundness.{headers}
 use Rattle.model.specs.Words.{State, at, halfWords, other, firstOf, firstWord, otherFirst, free}
-use Rattle.model.proofs.Halves.{other-other, build-length, build-new, build-old, filled-length, filled-in, filled-out}
+use Rattle.model.proofs.Halves.{other-other, build-length, build-new, build-old, filled-length, filled-in}
+use Rattle.model.proofs.Halves.{filled-out}
 use Rattle.model.proofs.Lists.{getD-map}
 use Rattle.model.proofs.Members.{In, Out, in-nil, in-other, out-cons}
 use Rattle.model.proofs.Order.{free-in}
@@ -50,7 +52,8 @@ module _ (Y : Layout) where
   marked-out H o b [] j m = refl
   marked-out H o b (i ∷ js) j m =
       let p = out-cons j i js m in
-      getD-set-other (marked Y H o b js) i j (Y .mark (address Y (b + wordsBefore (cells Y H) o i))) 0 (p .0) ∙ marked-out H o b js j (p .1)
+      getD-set-other (marked Y H o b js) i j (Y .mark (address Y (b + wordsBefore (cells Y H) o i))) 0 (p .0)
+      ∙ marked-out H o b js j (p .1)
 
 -- the order names headers of a sound state, whose objects fit in a half
 module _ (Y : Layout) (s : State) (h : SoundTests Y s) (o : List ℕ) (heads : (i : ℕ) → In i o → In i (headers Y s))
@@ -132,7 +135,8 @@ module _ (Y : Layout) (s : State) (h : SoundTests Y s) (o : List ℕ) (heads : (
       ∙ filled-out S m (passed ++ coming) (omega (arith, words-length)) k
 
   -- a word of the old half
-  stage-old : (m : ℕ) → m < S → at (d .heap) (firstWord s + m) ≡ at (marked Y (s .heap) o (otherFirst s) o) (firstWord s + m)
+  stage-old : (m : ℕ) → m < S
+      → at (d .heap) (firstWord s + m) ≡ at (marked Y (s .heap) o (otherFirst s) o) (firstWord s + m)
   unfolding stage
   stage-old m k =
       ap (λ z. at (d .heap) (firstOf S z + m)) (sym (other-other (s .«record» .half)))
@@ -141,7 +145,8 @@ module _ (Y : Layout) (s : State) (h : SoundTests Y s) (o : List ℕ) (heads : (
       ∙ getD-take S (drop (firstWord s) (marked Y (s .heap) o (otherFirst s) o)) m 0 k
       ∙ getD-drop (firstWord s) (marked Y (s .heap) o (otherFirst s) o) m 0
 
-  pub stage-header : (i : ℕ) → In i o → at (d .heap) i ≡ Y .mark (address Y (otherFirst s + wordsBefore (cells Y (s .heap)) o i))
+  pub stage-header : (i : ℕ) → In i o
+      → at (d .heap) i ≡ Y .mark (address Y (otherFirst s + wordsBefore (cells Y (s .heap)) o i))
   stage-header i m =
       let t = headers-tile Y (s .heap) (free s) (free s - firstWord s) (firstWord s) i (h .tiled) (heads i m) in
       let e : firstWord s + (i - firstWord s) ≡ i = omega (arith, t .from) in

@@ -64,7 +64,8 @@ module _ (Y : Layout) where
     headerOf x = getD (headers Y s) x 0
 
     unfoldable pub valueOf : ℕ → Value
-    valueOf w = cond (isAddress w) (object (place (index Y w) hs)) (cond (isNull w) (plain null) (plain (integer (untag w))))
+    valueOf w =
+        cond (isAddress w) (object (place (index Y w) hs)) (cond (isNull w) (plain null) (plain (integer (untag w))))
 
     abbrev objectOf : Kind → List ℕ → Object
     objectOf Traced ws = traced (map valueOf ws)

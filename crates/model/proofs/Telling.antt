@@ -59,7 +59,8 @@ abbrev pub heard : Call → Told → Answer
 heard c t = cond (eqb (t .refusal) 0) (own c t) (Says.Refused (refusalOf (t .refusal)))
 
 -- refusal and value are enough, but for inspect
-pub plain-heard : (c : Call) → ((r : ℕ) → c ≡ Ask.Inspect r → ⊥) → (t : Told) → heard c t ≡ heard c (tells (t .refusal) 0 (t .value))
+pub plain-heard : (c : Call) → ((r : ℕ) → c ≡ Ask.Inspect r → ⊥) → (t : Told)
+    → heard c t ≡ heard c (tells (t .refusal) 0 (t .value))
 plain-heard Ask.Collect n t = refl
 plain-heard Ask.Check n t = refl
 plain-heard (Ask.Allocate k m r) n t = refl
@@ -128,10 +129,12 @@ module _ (Y : Layout) (s : State) where
       on-roots (Ask.SetInteger r v) (r ∷ []) _ (refuse-back (Ask.SetInteger r v) _ Why.Range s _ (back refl))
   step-back (Ask.SetNull r) = on-roots (Ask.SetNull r) (r ∷ []) _ (back refl)
   step-back (Ask.Copy from to) = on-roots (Ask.Copy from to) (from ∷ to ∷ []) _ (back refl)
-  step-back (Ask.Load r f to) = on-roots (Ask.Load r f to) (r ∷ to ∷ []) _ (on-field (Ask.Load r f to) Traced r f _ (back refl))
+  step-back (Ask.Load r f to) =
+      on-roots (Ask.Load r f to) (r ∷ to ∷ []) _ (on-field (Ask.Load r f to) Traced r f _ (back refl))
   step-back (Ask.Store r f from) =
       on-roots (Ask.Store r f from) (r ∷ from ∷ []) _ (on-field (Ask.Store r f from) Traced r f _ (back refl))
-  step-back (Ask.RawRead r f) = on-roots (Ask.RawRead r f) (r ∷ []) _ (on-field (Ask.RawRead r f) Untraced r f _ (back refl))
+  step-back (Ask.RawRead r f) =
+      on-roots (Ask.RawRead r f) (r ∷ []) _ (on-field (Ask.RawRead r f) Untraced r f _ (back refl))
   step-back (Ask.RawWrite r f x) =
       on-roots (Ask.RawWrite r f x) (r ∷ []) _ (on-field (Ask.RawWrite r f x) Untraced r f _ (back refl))
   step-back (Ask.Same r q) =
@@ -169,7 +172,8 @@ apart : (c : Call) (a b : Answer) → heard c (told a) ≡ a → heard c (told b
 apart c a b e f q = sym e ∙ ap (heard c) q ∙ f
 
 -- of refusal and value alone, but for inspect
-pub apart-by-two : (c : Call) (a b : Answer) → ((r : ℕ) → c ≡ Ask.Inspect r → ⊥) → heard c (told a) ≡ a → heard c (told b) ≡ b
+pub apart-by-two : (c : Call) (a b : Answer) → ((r : ℕ) → c ≡ Ask.Inspect r → ⊥) → heard c (told a) ≡ a
+    → heard c (told b) ≡ b
     → told a .refusal ≡ told b .refusal → told a .value ≡ told b .value → a ≡ b
 apart-by-two c a b n e f q v =
     sym e ∙ plain-heard c n (told a) ∙ ap (λ k. heard c (tells k 0 (told a .value))) q

@@ -57,11 +57,13 @@ both-and a b h g = rw (h, g)
 
 -- ---- all
 
-pub all-at : {A : Type 0} (p : A → Bool) (xs : List A) (d : A) (k : ℕ) → all p xs ≡ true → k < length xs → p (getD xs k d) ≡ true
+pub all-at : {A : Type 0} (p : A → Bool) (xs : List A) (d : A) (k : ℕ) → all p xs ≡ true → k < length xs
+    → p (getD xs k d) ≡ true
 all-at p [] d k h l = absurd (omega arith)
 all-at p (x ∷ xs) d zero h l = and-both (p x) (all p xs) h .0
 all-at p (x ∷ xs) d (suc k) h l = all-at p xs d k (and-both (p x) (all p xs) h .1) (omega arith)
 
-pub at-all : {A : Type 0} (p : A → Bool) (xs : List A) (d : A) → ((k : ℕ) → k < length xs → p (getD xs k d) ≡ true) → all p xs ≡ true
+pub at-all : {A : Type 0} (p : A → Bool) (xs : List A) (d : A) → ((k : ℕ) → k < length xs → p (getD xs k d) ≡ true)
+    → all p xs ≡ true
 at-all p [] d f = refl
 at-all p (x ∷ xs) d f = both-and (p x) (all p xs) (f zero (omega arith)) (at-all p xs d (λ k l. f (suc k) (omega arith)))

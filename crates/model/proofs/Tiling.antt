@@ -51,7 +51,8 @@ module _ (Y : Layout) where
   tiles-here H e zero = eq-eqb e e refl
   tiles-here H e (suc n) = rw (eq-eqb e e refl)
 
-  pub headers-more : (H : List ℕ) (e n i : ℕ) → ltb i e ≡ true → headersFrom Y H e (suc n) i ≡ i ∷ headersFrom Y H e n (i + size Y H i)
+  pub headers-more : (H : List ℕ) (e n i : ℕ) → ltb i e ≡ true
+      → headersFrom Y H e (suc n) i ≡ i ∷ headersFrom Y H e n (i + size Y H i)
   unfolding headersFrom
   headers-more H e n i l = rw l
 

@@ -71,7 +71,8 @@ module _ (Y : Layout) where
   untraced-leads Traced w j e = (refl, e)
   untraced-leads Untraced w j e = absurd (no-some j e)
 
-  pub cell-leads : (H : List ℕ) (i k j : ℕ) → i + size Y H i ≤ length H → cellLeads Y (getD (cells Y H i) k (still 0)) ≡ some j
+  pub cell-leads : (H : List ℕ) (i k j : ℕ) → i + size Y H i ≤ length H
+      → cellLeads Y (getD (cells Y H i) k (still 0)) ≡ some j
       → Leads H i k j
   cell-leads H i zero j l e = absurd (no-some j e)
   cell-leads H i (suc f) j l e =
@@ -95,7 +96,8 @@ module _ (Y : Layout) where
 
   -- and the other way
   pub field-leads : (H : List ℕ) (i f : ℕ) → i + size Y H i ≤ length H → kind Y H i ≡ Traced → f < fieldCount Y H i
-      → isAddress (at H (i + 1 + f)) ≡ true → cellLeads Y (getD (cells Y H i) (suc f) (still 0)) ≡ some (index Y (at H (i + 1 + f)))
+      → isAddress (at H (i + 1 + f)) ≡ true
+      → cellLeads Y (getD (cells Y H i) (suc f) (still 0)) ≡ some (index Y (at H (i + 1 + f)))
   field-leads H i f l k u p =
       let n = fields-length Y H i l in
       ap (cellLeads Y)

@@ -52,7 +52,8 @@ visit-only o (some i) j h =
 pub visits-starts : (o : List ℕ) (ls : List (Option ℕ)) → Starts o (visits o ls)
 unfolding visits
 visits-starts o [] = starts-refl o
-visits-starts o (l ∷ ls) = starts-trans o (visit o l) (visits (visit o l) ls) (visit-starts o l) (visits-starts (visit o l) ls)
+visits-starts o (l ∷ ls) =
+    starts-trans o (visit o l) (visits (visit o l) ls) (visit-starts o l) (visits-starts (visit o l) ls)
 
 pub visits-distinct : (o : List ℕ) (ls : List (Option ℕ)) → Distinct o → Distinct (visits o ls)
 unfolding visits
@@ -66,7 +67,8 @@ visits-has o (l ∷ ls) zero i e =
     starts-in i (visit o l) (visits (visit o l) ls) (visits-starts (visit o l) ls) (rw e (visit-has o i))
 visits-has o (l ∷ ls) (suc k) i e = visits-has (visit o l) ls k i e
 
-pub visits-only : (o : List ℕ) (ls : List (Option ℕ)) (j : ℕ) → In j (visits o ls) → In j o ⊎ ((k : ℕ) × (getD ls k none ≡ some j))
+pub visits-only : (o : List ℕ) (ls : List (Option ℕ)) (j : ℕ) → In j (visits o ls)
+    → In j o ⊎ ((k : ℕ) × (getD ls k none ≡ some j))
 unfolding visits
 visits-only o [] j h = inl h
 visits-only o (l ∷ ls) j h =

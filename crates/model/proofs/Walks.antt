@@ -1,5 +1,5 @@
--- A walk over headers from i to e, with the words left as the number of turns: more turns change nothing, and how it goes on from
--- one header to the next.
+-- A walk over headers from i to e, with the words left as the number of turns: more turns change nothing,
+-- and how it goes on from one header to the next.
 use Prim.Native.Nat.{ℕ, zero, suc, _+_, _-_, _≤_, _<_}
 use native.Mathlib.Omega.{arith}
 use mathlib.Core.Path.{_≡_, refl, sym, ap, _∙_}
@@ -61,7 +61,8 @@ module _ (Y : Layout) (H : List ℕ) (e : ℕ) where
     all-turn : i < e → (b : Bool) → q i ≡ b → all q (headersFrom Y H e (e - i) i)
         ≡ (b && all q (headersFrom Y H e (e - (i + size Y H i)) (i + size Y H i)))
     all-turn more b t =
-        ap (all q) (headers-turn i more) ∙ ap (λ (b : Bool). b && all q (headersFrom Y H e (e - (i + size Y H i)) (i + size Y H i))) t
+        ap (all q) (headers-turn i more)
+        ∙ ap (λ (b : Bool). b && all q (headersFrom Y H e (e - (i + size Y H i)) (i + size Y H i))) t
 
     pub all-passed : i < e → q i ≡ true → all q (headersFrom Y H e (e - (i + size Y H i)) (i + size Y H i))
         ≡ all q (headersFrom Y H e (e - i) i)

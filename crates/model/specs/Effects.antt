@@ -106,7 +106,8 @@ module _ (Y : Layout) where
     -- raw read and raw write: the same for an untraced object and a plain number
     pub rawRead : (object field : ℕ) (s : State) → Passes (Ask.RawRead object field) s
         → M .step (Ask.RawRead object field) s .answer ≡ Says.Number (at (s .heap) (fieldAt s object field))
-    pub rawReadLeaves : (object field : ℕ) (s : State) → Passes (Ask.RawRead object field) s → Leaves (M .step (Ask.RawRead object field) s) s
+    pub rawReadLeaves : (object field : ℕ) (s : State) → Passes (Ask.RawRead object field) s
+        → Leaves (M .step (Ask.RawRead object field) s) s
     pub rawWrite : (object field number : ℕ) (s : State) → Passes (Ask.RawWrite object field number) s
         → Done (M .step (Ask.RawWrite object field number) s) (WordChanged s (fieldAt s object field) number)
     -- same: yes exactly when two roots hold equal words
