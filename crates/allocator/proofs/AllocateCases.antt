@@ -38,7 +38,8 @@ module _ (Y : Layout) (k : Kind) (n r : ℕ) (s : State) where
       module _ (c : n ≤ maxFields) where
         pub allocate-retry : spare s ≤ n → Calls.allocate Y k n r s ≡ retried Y k n r s
         unfolding Calls.allocate refuse retried
-        allocate-retry f = rw (b, lt-leb (length (s .roots)) r l, le-ltb maxFields n c, lt-leb (n + 1) (spare s) (omega arith))
+        allocate-retry f =
+            rw (b, lt-leb (length (s .roots)) r l, le-ltb maxFields n c, lt-leb (n + 1) (spare s) (omega arith))
 
   pub retried-damaged : sound Y s ≡ false → retried Y k n r s ≡ says (Says.Refused Why.Damaged) s
   unfolding retried refuse

@@ -20,7 +20,8 @@ use Rattle.model.proofs.CollectedSound.{new-shape}
 -- from its answer and the check before it, which changed nothing
 pub left-is : (Y : Layout) (h₁ h rs : List ℕ) (q : Record) → h₁ ≡ h → (n : ℕ) (s′ : State)
     → says (Says.Live n) s′ ≡ collection Y (stateOf h₁ rs q) → s′ ≡ collected Y (stateOf h rs q)
-left-is Y h₁ h rs q same n s′ e = ap (λ (o : Outcome State). o .left) e ∙ ap (λ (x : List ℕ). collected Y (stateOf x rs q)) same
+left-is Y h₁ h rs q same n s′ e =
+    ap (λ (o : Outcome State). o .left) e ∙ ap (λ (x : List ℕ). collected Y (stateOf x rs q)) same
 
 -- it has its shape, and as many roots
 module _ (Y : Layout) (s : State) (e : sound Y s ≡ true) (s′ : State) (l : s′ ≡ collected Y s) where

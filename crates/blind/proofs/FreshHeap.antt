@@ -22,7 +22,8 @@ cleared-all h =
     ext-getD 0 (cleared h 0 (length h)) (replicate (length h) 0) (l ∙ sym (length-replicate (length h) 0))
     (λ i b. cleared-inside h 0 (length h) i (omega arith) (omega arith) (omega arith) ∙ sym (getD-replicate (length h) i 0 0 (omega arith)))
 
-pub fresh-done : (s : State) (h : List ℕ) → badLength (length (s .heap)) ≡ false → h ≡ cleared (s .heap) 0 (length (s .heap))
+pub fresh-done : (s : State) (h : List ℕ) → badLength (length (s .heap)) ≡ false
+    → h ≡ cleared (s .heap) 0 (length (s .heap))
     → says Says.Done (stateOf h (s .roots) (record { half = A; free = record { 0 = 1 } })) ≡ Calls.fresh s
 unfolding Calls.fresh
 fresh-done s h b e = passes _ _ b (rw (e, cleared-all (s .heap)))

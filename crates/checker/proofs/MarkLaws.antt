@@ -34,7 +34,8 @@ module _ (Y : Layout) (p : Part) where
   NoMark k = Outside (p .marks .0) (usedWords p) k
 
   mark-there : (i k : ℕ) → p .first .0 ≤ i → i < p .free .0 → NoMark k → k ≡ markAt p i → ⊥
-  mark-there i k l m o e = ⊎-elim (λ (u : k < p .marks .0). omega arith) (λ (u : p .marks .0 + usedWords p ≤ k). omega arith) o
+  mark-there i k l m o e =
+      ⊎-elim (λ (u : k < p .marks .0). omega arith) (λ (u : p .marks .0 + usedWords p ≤ k). omega arith) o
 
   pub mark-length : (n : ℕ) (H : List ℕ) (i : ℕ) → length (markHeaders Y n H p i .heap) ≡ length H
   unfolding markHeaders
@@ -47,7 +48,8 @@ module _ (Y : Layout) (p : Part) where
       (by-test (ltb i (p .free .0) && Y .isHeader (at H i)))
 
   -- only the marks' places change
-  pub mark-outside : (n : ℕ) (H : List ℕ) (i k : ℕ) → p .first .0 ≤ i → NoMark k → at (markHeaders Y n H p i .heap) k ≡ at H k
+  pub mark-outside : (n : ℕ) (H : List ℕ) (i k : ℕ) → p .first .0 ≤ i → NoMark k
+      → at (markHeaders Y n H p i .heap) k ≡ at H k
   unfolding markHeaders
   mark-outside zero H i k l o = refl
   mark-outside (suc n) H i k l o =
@@ -84,7 +86,8 @@ module _ (Y : Layout) (p : Part) where
         getD-take n (drop i H′) k 0 c ∙ getD-drop i H′ k 0 ∙ agree (i + k) (omega arith) (omega arith)
         ∙ sym (getD-take n (drop i H) k 0 c ∙ getD-drop i H k 0))
 
-    pub fields-agree : length H′ ≡ length H → (i : ℕ) → p .first .0 ≤ i → i + size Y H i ≤ p .free .0 → fieldWords Y H′ i ≡ fieldWords Y H i
+    pub fields-agree : length H′ ≡ length H → (i : ℕ) → p .first .0 ≤ i → i + size Y H i ≤ p .free .0
+        → fieldWords Y H′ i ≡ fieldWords Y H i
     fields-agree s i l m =
         ap (λ (w : ℕ). run H′ (i + 1) (Y .countOf w)) (agree i l (omega arith))
         ∙ run-agree s (i + 1) (fieldCount Y H i) (omega arith) (omega arith)
@@ -126,7 +129,8 @@ module _ (Y : Layout) (p : Part) where
         (by-test (ltb i (p .free .0)))
 
     -- and then the marks stand at the headers, besides those that stood before
-    pub mark-marks : (H : List ℕ) (n : ℕ) (H′ : List ℕ) (i x : ℕ) → p .first .0 ≤ i → Agree H′ H → tiles Y H (p .free .0) n i ≡ true
+    pub mark-marks : (H : List ℕ) (n : ℕ) (H′ : List ℕ) (i x : ℕ) → p .first .0 ≤ i → Agree H′ H
+        → tiles Y H (p .free .0) n i ≡ true
         → p .marks .0 + usedWords p ≤ length H′ → p .first .0 ≤ x → x < p .free .0
         → eqb (at (markHeaders Y n H′ p i .heap) (markAt p x)) 1 ≡ (mem x (headersFrom Y H (p .free .0) n i) || eqb (at H′ (markAt p x)) 1)
     unfolding headersFrom markHeaders mem

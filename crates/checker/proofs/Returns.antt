@@ -30,7 +30,8 @@ use Rattle.checker.proofs.SoundByMarks.{sound-clean, heap-restored}
 -- ---- the part of a record
 pub part-is : (S : ℕ) (q : Record) (i m : ℕ) (f : Half) → i ≡ firstOf S (q .half) → f ≡ other (q .half) → m ≡ firstOf S f
     → part i (q .free .0) m ≡ partOf S q
-part-is S q i m f a b c = ap (λ (x : ℕ). part x (q .free .0) m) a ∙ ap (part (firstOf S (q .half)) (q .free .0)) (c ∙ ap (firstOf S) b)
+part-is S q i m f a b c =
+    ap (λ (x : ℕ). part x (q .free .0) m) a ∙ ap (part (firstOf S (q .half)) (q .free .0)) (c ∙ ap (firstOf S) b)
 
 -- ---- the words around the used part
 module _ (H : List ℕ) (p : Part) (S : ℕ) where
@@ -43,8 +44,8 @@ module _ (H : List ℕ) (p : Part) (S : ℕ) where
   unfolding isZeroAround
   around-idle z b e = let s : p .marks .0 + S - p .marks .0 ≡ S = omega arith in rw (s, eq-eqb (at H 0) 0 z, e)
 
-  -- n words of the half of the marks were tested, with the answer b, and m words from the free index on; that these lie in the
-  -- heap settles for the prover which n and m they are
+  -- n words of the half of the marks were tested, with the answer b, and m words from the free index on;
+  -- that these lie in the heap settles for the prover which n and m they are
   module _ (z : at H 0 ≡ 0)
       (n : ℕ) (within : p .marks .0 + n ≤ length H) (b : Bool) (e : b ≡ all isNull (run H (p .marks .0) n)) (half : n ≡ S) where
     idle-is : b ≡ all isNull (run H (p .marks .0) S)
@@ -81,7 +82,8 @@ module _ (Y : Layout) (H : List ℕ) (p : Part) (H′ : List ℕ) (stop : ℕ) (
   left-heap = ap (λ (m : Marking). m .heap) is
 
   -- what was marked to the end lies in the heap and is tiled
-  pub marked-fits : Fits H p → Apart (p .first .0) (p .marks .0) (usedWords p) → stop ≡ p .free .0 → Fits H′ p × (isTiledPart Y H′ p ≡ true)
+  pub marked-fits : Fits H p → Apart (p .first .0) (p .marks .0) (usedWords p) → stop ≡ p .free .0
+      → Fits H′ p × (isTiledPart Y H′ p ≡ true)
   marked-fits f a e =
       let s : length H′ ≡ length H = ap length left-heap ∙ lengths Y H p f a in (
         record { start = f .start; used = omega (arith, f .used); marks = omega (arith, f .marks) },
@@ -115,7 +117,8 @@ module _ (Y : Layout) (H roots : List ℕ) (q : Record) where
         (fits Y (stateOf H roots q) fair, apart Y (stateOf H roots q) fair)
 
     pub unsound-around : false ≡ isZeroAround H p (halfWords H) → false ≡ sound Y (stateOf H roots q)
-    unsound-around d = sym (sound-dirty Y (stateOf H roots q) fair (sym (d ∙ ap (λ (p : Part). isZeroAround H p (halfWords H)) is)))
+    unsound-around d =
+        sym (sound-dirty Y (stateOf H roots q) fair (sym (d ∙ ap (λ (p : Part). isZeroAround H p (halfWords H)) is)))
 
     pub sound-used : true ≡ isZeroAround H p (halfWords H) → (r : Bool) (H′ : List ℕ)
         → r ≡ usedPartSound Y H roots p → H′ ≡ cleared (marked Y H p .heap) (p .marks .0) (usedWords p)
@@ -124,7 +127,8 @@ module _ (Y : Layout) (H roots : List ℕ) (q : Record) where
         let c : isZeroAround H (partOf (halfWords H) q) (halfWords H) ≡ true =
         sym (d ∙ ap (λ (p : Part). isZeroAround H p (halfWords H)) is) in (
           a ∙ ap (λ (p : Part). usedPartSound Y H roots p) is ∙ sym (sound-clean Y (stateOf H roots q) fair c),
-          b ∙ ap (λ (p : Part). cleared (marked Y H p .heap) (p .marks .0) (usedWords p)) is ∙ heap-restored Y (stateOf H roots q) fair c,
+          b ∙ ap (λ (p : Part). cleared (marked Y H p .heap) (p .marks .0) (usedWords p)) is
+              ∙ heap-restored Y (stateOf H roots q) fair c,
         )
 
   -- ---- the call check
@@ -134,10 +138,12 @@ module _ (Y : Layout) (H roots : List ℕ) (q : Record) where
   check-refused b = rw b
 
   module _ (fair : badShape (stateOf H roots q) ≡ false) (H′ : List ℕ) (same : H′ ≡ H) where
-    pub check-sound : true ≡ sound Y (stateOf H roots q) → says Says.Sound (stateOf H′ roots q) ≡ check Y (stateOf H roots q)
+    pub check-sound : true ≡ sound Y (stateOf H roots q)
+        → says Says.Sound (stateOf H′ roots q) ≡ check Y (stateOf H roots q)
     unfolding check refuse
     check-sound e = rw (same, fair, ← e)
 
-    pub check-unsound : false ≡ sound Y (stateOf H roots q) → says Says.Unsound (stateOf H′ roots q) ≡ check Y (stateOf H roots q)
+    pub check-unsound : false ≡ sound Y (stateOf H roots q)
+        → says Says.Unsound (stateOf H′ roots q) ≡ check Y (stateOf H roots q)
     unfolding check refuse
     check-unsound e = rw (same, fair, ← e)

@@ -26,8 +26,10 @@ use Rattle.model.proofs.Tiling.{headers-tile}
 use Rattle.runs.specs.Runs.{cleared}
 use Rattle.runs.proofs.RunLaws.{Apart, cleared-length, cleared-inside, cleared-outside}
 use Rattle.checker_marks.specs.declared.Part.{Part}
-use Rattle.checker_marks.specs.Marks.{Fits, Halves, usedWords, partOf, markAt, marked, isZeroAround, isValueByMarks, fieldsAreValuesByMarks, isTiledPart, headersOf, allAreValuesByMarks, usedPartSound}
-use Rattle.checker.proofs.MarkLaws.{Agree, NoMark, mark-length, mark-outside, mark-agree, mark-stop, mark-marks, tiles-agree, fields-agree}
+use Rattle.checker_marks.specs.Marks.{Fits, Halves, usedWords, partOf, markAt, marked, isZeroAround, isValueByMarks}
+use Rattle.checker_marks.specs.Marks.{fieldsAreValuesByMarks, isTiledPart, headersOf, allAreValuesByMarks, usedPartSound}
+use Rattle.checker.proofs.MarkLaws.{Agree, NoMark, mark-length, mark-outside, mark-agree, mark-stop, mark-marks}
+use Rattle.checker.proofs.MarkLaws.{tiles-agree, fields-agree}
 
 -- two tests that are the same on a list's elements
 all-same : (f g : ℕ → Bool) (xs : List ℕ) → ((i : ℕ) → In i xs → f i ≡ g i) → all f xs ≡ all g xs
@@ -70,7 +72,9 @@ module _ (Y : Layout) (H : List ℕ) (p : Part) (fits : Fits H p) (apart : Apart
         (decide k (p .marks .0)))
       where
         outside : (k : ℕ) → NoMark Y p k → at (cleared M (p .marks .0) (usedWords p)) k ≡ at H k
-        outside k o = cleared-outside M (p .marks .0) (usedWords p) k o ∙ mark-outside Y p (usedWords p) H (p .first .0) k (omega arith) o
+        outside k o =
+            cleared-outside M (p .marks .0) (usedWords p) k o
+            ∙ mark-outside Y p (usedWords p) H (p .first .0) k (omega arith) o
 
     module _ (tiled : isTiledPart Y H p ≡ true) where
       -- a word is marked exactly where a header stands
@@ -117,7 +121,8 @@ module _ (Y : Layout) (H : List ℕ) (p : Part) (fits : Fits H p) (apart : Apart
           ∙ ap (λ (b : Bool). not (isTraced (kind Y H i)) || b)
           (all-same (isValueByMarks Y M p) (isValue Y hs) (fieldWords Y H i) (λ x _. value-is x))
 
-      all-are : (roots : List ℕ) → allAreValuesByMarks Y M roots p ≡ (all (isValue Y hs) roots && all (fieldsAreValues Y H hs) hs)
+      all-are : (roots : List ℕ)
+          → allAreValuesByMarks Y M roots p ≡ (all (isValue Y hs) roots && all (fieldsAreValues Y H hs) hs)
       unfolding allAreValuesByMarks
       all-are roots =
           rw (

@@ -1,5 +1,5 @@
--- How the walk that marks and the walk over a run of words go on from one turn to the next, and one word and one object held
--- against the marks, case by case.
+-- How the walk that marks and the walk over a run of words go on from one turn to the next, and one word
+-- and one object held against the marks, case by case.
 use Prim.Native.Nat.{ℕ, zero, suc, _+_, _-_, _%_, _≤_, _<_}
 use native.Mathlib.Omega.{arith}
 use mathlib.Core.Path.{_≡_, refl, sym, ap, _∙_}
@@ -29,7 +29,8 @@ module _ (q : ℕ → Bool) (l : List ℕ) (from n i : ℕ) where
 
   run-turn : i < n → from + n ≤ length l → (b : Bool) → q (at l (from + i)) ≡ b
       → all q (run l (from + i) (n - i)) ≡ (b && all q (run l (from + (i + 1)) (n - (i + 1))))
-  run-turn more fits b e = ap (all q) (run-next more fits) ∙ ap (λ (b : Bool). b && all q (run l (from + (i + 1)) (n - (i + 1)))) e
+  run-turn more fits b e =
+      ap (all q) (run-next more fits) ∙ ap (λ (b : Bool). b && all q (run l (from + (i + 1)) (n - (i + 1)))) e
 
   pub run-passed : i < n → from + n ≤ length l → q (at l (from + i)) ≡ true
       → all q (run l (from + (i + 1)) (n - (i + 1))) ≡ all q (run l (from + i) (n - i))
@@ -48,7 +49,8 @@ module _ (Y : Layout) (p : Part) where
   mark-ended zero H i d = refl
   mark-ended (suc n) H i d = rw (le-ltb i (p .free .0) d)
 
-  pub mark-stopped : (n : ℕ) (H : List ℕ) (i : ℕ) → i < p .free .0 → Y .isHeader (at H i) ≡ false → markHeaders Y n H p i ≡ marking H i
+  pub mark-stopped : (n : ℕ) (H : List ℕ) (i : ℕ) → i < p .free .0 → Y .isHeader (at H i) ≡ false
+      → markHeaders Y n H p i ≡ marking H i
   unfolding markHeaders
   mark-stopped zero H i d b = refl
   mark-stopped (suc n) H i d b = rw (lt-ltb i (p .free .0) d, b)
@@ -59,11 +61,13 @@ module _ (Y : Layout) (p : Part) where
   mark-next n H i d b = rw (lt-ltb i (p .free .0) d, b)
 
   -- as many turns as words are enough
-  mark-enough : (n m : ℕ) (H : List ℕ) (i : ℕ) → p .free .0 - i ≤ n → p .free .0 - i ≤ m → markHeaders Y n H p i ≡ markHeaders Y m H p i
+  mark-enough : (n m : ℕ) (H : List ℕ) (i : ℕ) → p .free .0 - i ≤ n → p .free .0 - i ≤ m
+      → markHeaders Y n H p i ≡ markHeaders Y m H p i
   unfolding markHeaders
   mark-enough zero m H i a b = sym (mark-ended m H i (omega arith))
   mark-enough (suc n) zero H i a b = mark-ended (suc n) H i (omega arith)
-  mark-enough (suc n) (suc m) H i a b = rw (mark-enough n m (set H (markAt p i) 1) (i + size Y H i) (omega arith) (omega arith))
+  mark-enough (suc n) (suc m) H i a b =
+      rw (mark-enough n m (set H (markAt p i) 1) (i + size Y H i) (omega arith) (omega arith))
 
   pub mark-turn : (H : List ℕ) (i : ℕ) → i < p .free .0 → Y .isHeader (at H i) ≡ true → (n : ℕ) → n ≡ fieldCount Y H i
       → markHeaders Y (p .free .0 - (i + (n + 1))) (set H (markAt p i) 1) p (i + (n + 1)) ≡ markHeaders Y (p .free .0 - i) H p i

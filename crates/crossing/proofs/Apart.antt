@@ -32,7 +32,8 @@ null-inspect r e = let z : _≡_ {A = ℕ} 0 1 = cc in omega arith
 read-inspect : (r : ℕ) → Ask.RawRead 0 0 ≡ Ask.Inspect r → ⊥
 read-inspect r e = let z : _≡_ {A = ℕ} 0 1 = cc in omega arith
 
-told-same : (t t′ : Told) → t .refusal ≡ t′ .refusal → t .holds ≡ t′ .holds → t .integer ≡ t′ .integer → t .value ≡ t′ .value → t ≡ t′
+told-same : (t t′ : Told) → t .refusal ≡ t′ .refusal → t .holds ≡ t′ .holds → t .integer ≡ t′ .integer
+    → t .value ≡ t′ .value → t ≡ t′
 told-same t t′ a b c d = λ i. record { refusal = a i; holds = b i; integer = c i; value = d i }
 
 window-apart : (p p′ : Place) → windowOf p ≡ windowOf p′ → p ≡ p′

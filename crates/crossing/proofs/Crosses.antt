@@ -1,5 +1,5 @@
--- The law that every exported call cites: a call that is made with the record taken from C's numbers, and whose answer and record
--- go back as numbers, is the model's call given those numbers.
+-- The law that every exported call cites: a call that is made with the record taken from C's numbers, and
+-- whose answer and record go back as numbers, is the model's call given those numbers.
 use Prim.Native.Nat.{ℕ}
 use native.Mathlib.Omega.{arith}
 use mathlib.Core.Path.{_≡_, refl, sym, ap, _∙_, subst}
@@ -76,7 +76,11 @@ fresh-crosses {H′} H q c f e =
     ∙ go (badLength (length H)) refl
   where
     sent-back : Outcome State → Given CResult
-    sent-back o = givenOf (resultOf (told (o .answer)) (freshBack (told (o .answer)) c (o .left .«record»))) (o .left .heap) (o .left .roots)
+    sent-back o =
+        givenOf
+        (resultOf (told (o .answer)) (freshBack (told (o .answer)) c (o .left .«record»)))
+        (o .left .heap)
+        (o .left .roots)
 
     go : (b : Bool) → badLength (length H) ≡ b → sent-back (fresh (stateOf H [] q)) ≡ begun H c
     go true e = rw e

@@ -28,7 +28,8 @@ use Rattle.crossing.specs.Crossing.{Narrow, NarrowPlace}
 shaped-narrow : (s : State) → Shaped s → Narrow (free s)
 shaped-narrow s h = let f = first-in s h in omega (arith, h .high, h .odd, h .small)
 
-placed-narrow : (Y : Layout) (s : State) (k : Kind) (n r : ℕ) → Shaped s → fits n s ≡ true → Narrow (free (placed Y k n r s))
+placed-narrow : (Y : Layout) (s : State) (k : Kind) (n r : ℕ) → Shaped s → fits n s ≡ true
+    → Narrow (free (placed Y k n r s))
 unfolding placed
 placed-narrow Y s k n r h e =
     let f = first-in s h in

@@ -29,7 +29,8 @@ nowhere-bad H R =
     or-left (badLength (length H) || ltb maxRoots (length R) || true) (ltb (1 + S) 0)
     (or-right (badLength (length H) || ltb maxRoots (length R)) true refl)
 
-refused : {b : Bool} {k : Refusal} {s : State} (next : Outcome State) → b ≡ true → refuse b k s next ≡ says (Says.Refused k) s
+refused : {b : Bool} {k : Refusal} {s : State} (next : Outcome State) → b ≡ true
+    → refuse b k s next ≡ says (Says.Refused k) s
 unfolding refuse
 refused next e = rw e
 

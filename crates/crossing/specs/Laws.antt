@@ -15,11 +15,13 @@ use Rattle.model.specs.Window.{windowWord}
 use Rattle.model.specs.Sessions.{step}
 use Rattle.crossing.specs.declared.CRecord.{CRecord}
 use Rattle.crossing.specs.declared.CWindow.{CWindow}
-use Rattle.crossing.specs.Numbers.{Given, givenOf, noHalf, numbersOf, recordOf, resultOf, collectedOf, answerOf, seenOf, windowOf, wordAt}
+use Rattle.crossing.specs.Numbers.{Given, givenOf, noHalf, numbersOf, recordOf, resultOf, collectedOf, answerOf}
+use Rattle.crossing.specs.Numbers.{seenOf, windowOf, wordAt}
 
 -- a promise is an equation `given .. ≡ g`: any two outcomes that it allows are equal
 abbrev pub Settles : Type 1
-Settles = (T : Type 0) (g : Given T) (a b : T) (H H′ R R′ : List ℕ) → givenOf a H R ≡ g → givenOf b H′ R′ ≡ g → (a ≡ b) × (H ≡ H′) × (R ≡ R′)
+Settles = (T : Type 0) (g : Given T) (a b : T) (H H′ R R′ : List ℕ)
+    → givenOf a H R ≡ g → givenOf b H′ R′ ≡ g → (a ≡ b) × (H ≡ H′) × (R ≡ R′)
 
 -- the record that a call returned is the one that the next call is made with, and the other way round
 pub record RecordLaw : Type 0 where

@@ -42,12 +42,14 @@ module _ (Y : Layout) (H : List ℕ) where
       fields = λ d l. let k = C .fields (suc d) (omega arith) in (
         k .0,
         ap (λ (y : ℕ). getD (P (o ++ more)) y (still 0)) (omega arith)
-            ∙ packed-starts (cells Y H) (still 0) o (o ++ more) (p + suc d) (more, refl) (omega (arith, gone-within)) ∙ k .1,
+            ∙ packed-starts (cells Y H) (still 0) o (o ++ more) (p + suc d) (more, refl) (omega (arith, gone-within))
+            ∙ k .1,
       );
       others = λ d l. let k = C .others d l in (
         k .0,
         ap (λ (y : ℕ). getD (P (o ++ more)) y (still 0)) (omega arith)
-            ∙ packed-starts (cells Y H) (still 0) o (o ++ more) (p + v + d) (more, refl) (omega (arith, gone-within)) ∙ k .1,
+            ∙ packed-starts (cells Y H) (still 0) o (o ++ more) (p + v + d) (more, refl) (omega (arith, gone-within))
+            ∙ k .1,
       );
     }
 
@@ -80,8 +82,11 @@ module _ (Y : Layout) (H : List ℕ) where
     pub header-cell : getD (P o) p (still 0) ≡ still (at H k)
     header-cell = ap (λ (y : ℕ). getD (P o) y (still 0)) (omega arith) ∙ object-cell 0 (omega arith)
 
-    field-here : (d : ℕ) → d < fieldCount Y H k → getD (P o) (suc p + d) (still 0) ≡ fieldCell (kind Y H k) (at H (k + 1 + d))
-    field-here d l = ap (λ (y : ℕ). getD (P o) y (still 0)) (omega arith) ∙ object-cell (suc d) (omega arith) ∙ field-cell Y H k d whole l
+    field-here : (d : ℕ) → d < fieldCount Y H k
+        → getD (P o) (suc p + d) (still 0) ≡ fieldCell (kind Y H k) (at H (k + 1 + d))
+    field-here d l =
+        ap (λ (y : ℕ). getD (P o) y (still 0)) (omega arith) ∙ object-cell (suc d) (omega arith)
+        ∙ field-cell Y H k d whole l
 
     next-split : o ≡ (gone ++ (k ∷ [])) ++ rest
     next-split = C .split ∙ sym (append-assoc gone (k ∷ []) rest)

@@ -1,5 +1,5 @@
--- THE MIDDLE: after the roots and at most p words of the copies, heap, roots and record are exactly `during`; for every p, and
--- of any lawful layout.
+-- THE MIDDLE: after the roots and at most p words of the copies, heap, roots and record are exactly
+-- `during`; for every p, and of any lawful layout.
 use Prim.Native.Nat.{ℕ, _+_, _-_, _≤_, _<_, min}
 use native.Mathlib.Nat.{zero-add}
 use native.Mathlib.Omega.{arith}
@@ -138,7 +138,8 @@ module _ (Y : Layout) (K : Marks Y) (s : State) (v : SoundTests Y s) where
 
   pub state-is : (p : ℕ) → stateAfter Y s p ≡ during Y s p
   unfolding stateAfter scanned
-  state-is p = slice-is p 0 (e .heap) (between (otherFirst s) (e .free)) (scan-starts Y K s v) ∙ ap (during Y s) (zero-add p)
+  state-is p =
+      slice-is p 0 (e .heap) (between (otherFirst s) (e .free)) (scan-starts Y K s v) ∙ ap (during Y s) (zero-add p)
 
   reached : (p : ℕ) → Reached Y s p 0 (run Y p (e .heap) (between (otherFirst s) (e .free)))
   reached p = slice Y K s v p 0 (e .heap) (between (otherFirst s) (e .free)) (scan-starts Y K s v)

@@ -22,7 +22,8 @@ use Rattle.model.proofs.Objects.{cells-length}
 use Rattle.model.proofs.Shape.{other-in}
 use Rattle.model.proofs.Soundness.{SoundTests}
 use Rattle.model.proofs.During.{settle-stable}
-use Rattle.model.proofs.Middle.{halves-ordered, cell-word, packed-snoc, header-within, header-half, header-outside, header-alone, distinct-fits}
+use Rattle.model.proofs.Middle.{halves-ordered, cell-word, packed-snoc, header-within, header-half, header-outside}
+use Rattle.model.proofs.Middle.{header-alone, distinct-fits}
 use Rattle.runs.specs.Runs.{copiedRun}
 use Rattle.runs.proofs.RunLaws.{Outside, Apart, copied-outside, copied-inside, copied-length}
 use Rattle.engine_moving.specs.Moving.{moved}
@@ -36,7 +37,8 @@ pub record Midway (Y : Layout) (s : State) (o : List ℕ) (p : ℕ) (h : List �
   -- the new half: words passed are final, the others as the old objects hold them
   pub done : (j : ℕ) → j < p → at h (otherFirst s + j)
       ≡ settle Y (s .heap) o (otherFirst s) (getD (packed (cells Y (s .heap)) o) j (still 0))
-  pub todo : (j : ℕ) → p ≤ j → j < halfWords (s .heap) → at h (otherFirst s + j) ≡ oldWord (getD (packed (cells Y (s .heap)) o) j (still 0))
+  pub todo : (j : ℕ) → p ≤ j → j < halfWords (s .heap)
+      → at h (otherFirst s + j) ≡ oldWord (getD (packed (cells Y (s .heap)) o) j (still 0))
   -- what the words passed lead to is copied
   pub named : (j i : ℕ) → j < p → cellLeads Y (getD (packed (cells Y (s .heap)) o) j (still 0)) ≡ some i → In i o
   -- the order names objects, each once, and the words passed are theirs
@@ -48,15 +50,18 @@ pub record Midway (Y : Layout) (s : State) (o : List ℕ) (p : ℕ) (h : List �
 
 module _ (Y : Layout) (h : List ℕ) (k f : ℕ) where
   moved-at : k < length h → at (moved Y h k f) k ≡ Y .mark (address Y f)
-  moved-at l = getD-set-same (copiedRun h k f (size Y h k)) k (Y .mark (address Y f)) 0 (rw (copied-length h k f (size Y h k)) l)
+  moved-at l =
+      getD-set-same (copiedRun h k f (size Y h k)) k (Y .mark (address Y f)) 0 (rw (copied-length h k f (size Y h k)) l)
 
   moved-other : (x : ℕ) → (x ≡ k → ⊥) → Outside f (size Y h k) x → at (moved Y h k f) x ≡ at h x
-  moved-other x d o = getD-set-other (copiedRun h k f (size Y h k)) k x (Y .mark (address Y f)) 0 d ∙ copied-outside h k f (size Y h k) x o
+  moved-other x d o =
+      getD-set-other (copiedRun h k f (size Y h k)) k x (Y .mark (address Y f)) 0 d ∙ copied-outside h k f (size Y h k) x o
 
   moved-copy : (d : ℕ) → Apart k f (size Y h k) → f + size Y h k ≤ length h → (f + d ≡ k → ⊥) → d < size Y h k
       → at (moved Y h k f) (f + d) ≡ at h (k + d)
   moved-copy d a l e b =
-      getD-set-other (copiedRun h k f (size Y h k)) k (f + d) (Y .mark (address Y f)) 0 e ∙ copied-inside h k f (size Y h k) d a l b
+      getD-set-other (copiedRun h k f (size Y h k)) k (f + d) (Y .mark (address Y f)) 0 e
+      ∙ copied-inside h k f (size Y h k) d a l b
 
 -- ---- a new object moved to the free words
 
@@ -137,7 +142,8 @@ module _ (Y : Layout) (s : State) (v : SoundTests Y s) (o : List ℕ) (p : ℕ) 
 
   -- a word outside the new half is outside the copy
   copy-outside : (x : ℕ) → Outside t S x → Outside f (size Y h k) x
-  copy-outside x out = ⊎-elim (λ (a : x < t). inl (omega arith)) (λ (a : t + S ≤ x). inr (omega (arith, same-size, space))) out
+  copy-outside x out =
+      ⊎-elim (λ (a : x < t). inl (omega arith)) (λ (a : t + S ≤ x). inr (omega (arith, same-size, space))) out
 
   kept′ : (x : ℕ) → Outside t S x → Out x o′ → at h′ x ≡ at H x
   kept′ x out m =
@@ -160,7 +166,8 @@ module _ (Y : Layout) (s : State) (v : SoundTests Y s) (o : List ℕ) (p : ℕ) 
       (in-snoc x k o m)
 
   cell-before : (j : ℕ) → j < length (P o) → getD (P o′) j (still 0) ≡ getD (P o) j (still 0)
-  cell-before j l = ap (λ (c : List Cell). getD c j (still 0)) (packed-snoc Y H o k) ∙ List·getD-append (P o) (cells Y H k) (still 0) j l
+  cell-before j l =
+      ap (λ (c : List Cell). getD c j (still 0)) (packed-snoc Y H o k) ∙ List·getD-append (P o) (cells Y H k) (still 0) j l
 
   cell-new : (d : ℕ) → getD (P o′) (length (P o) + d) (still 0) ≡ getD (cells Y H k) d (still 0)
   cell-new d =

@@ -22,7 +22,8 @@ use Rattle.model.proofs.Shape.{other-in}
 use Rattle.model.proofs.Soundness.{SoundTests}
 use Rattle.model.proofs.Values.{address-leads}
 use Rattle.model.proofs.Keeping.{tile}
-use Rattle.model.proofs.Middle.{visit-again, visit-new, visit-none, plain-leads, rename-plain, rename-address, header-within, distinct-fits}
+use Rattle.model.proofs.Middle.{visit-again, visit-new, visit-none, plain-leads, rename-plain, rename-address}
+use Rattle.model.proofs.Middle.{header-within, distinct-fits}
 use Rattle.engine_moving.specs.declared.Met.the-variants.{Copied, Found}
 use Rattle.engine_moving.specs.Moving.{left, moved, renamed, MayRename}
 use Rattle.engine_moving.proofs.MovingLaws.{relocated-copied, relocated-found, renamed-address, renamed-plain}

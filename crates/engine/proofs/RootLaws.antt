@@ -10,7 +10,8 @@ use Rattle.model.specs.Headers.{Layout}
 use Rattle.runs.specs.Runs.{cleared}
 use Rattle.engine_moving.specs.Moving.{Left, renamed, MayRename}
 use Rattle.engine_scanning.specs.Scanning.{Freed, freed, ended, between, run, SafeRun}
-use Rattle.engine.specs.Evacuation.{Emptied, emptied, rootFirst, rooted, SafeRoots, scanned, evacuated, SafeEvacuation}
+use Rattle.engine.specs.Evacuation.{Emptied, emptied, rootFirst, rooted, SafeRoots, scanned, evacuated}
+use Rattle.engine.specs.Evacuation.{SafeEvacuation}
 use Rattle.engine_moving.proofs.MovingLaws.{renamed-length}
 
 -- what the roots before an index, done, and the outcome of the others make together
@@ -28,7 +29,8 @@ module _ (Y : Layout) where
   unfolding SafeRoots
   safe-cons h w rs f p = p
 
-  pub roots-done : (h rs : List ℕ) (f i : ℕ) → i ≡ length rs → joined (take i rs) (rooted Y h (drop i rs) f) ≡ emptied h rs f
+  pub roots-done : (h rs : List ℕ) (f i : ℕ) → i ≡ length rs
+      → joined (take i rs) (rooted Y h (drop i rs) f) ≡ emptied h rs f
   unfolding rooted
   roots-done h rs f i e = rw (e, drop-length rs, take-length rs) (rw (append-nil rs))
 
@@ -66,9 +68,11 @@ module _ (Y : Layout) where
 
   module _ (h rs : List ℕ) (old used new : ℕ) (h₁ rs₁ : List ℕ) (f₁ : ℕ) (e : emptied h₁ rs₁ f₁ ≡ rooted Y h rs new) where
     pub scan-safe : SafeEvacuation Y h rs old used new → SafeRun Y (length h₁ - new) h₁ (between new f₁)
-    scan-safe p = subst (λ (v : Emptied). SafeRun Y (length (v .heap) - new) (v .heap) (between new (v .free))) (sym e) (p .scan)
+    scan-safe p =
+        subst (λ (v : Emptied). SafeRun Y (length (v .heap) - new) (v .heap) (between new (v .free))) (sym e) (p .scan)
 
-    pub evacuated-is : (h₂ : List ℕ) (f₂ : ℕ) (h₃ : List ℕ) → freed h₂ f₂ ≡ ended (run Y (length h₁ - new) h₁ (between new f₁))
+    pub evacuated-is : (h₂ : List ℕ) (f₂ : ℕ) (h₃ : List ℕ)
+        → freed h₂ f₂ ≡ ended (run Y (length h₁ - new) h₁ (between new f₁))
         → h₃ ≡ cleared h₂ old used
         → emptied h₃ rs₁ f₂ ≡ evacuated Y h rs old used new
     unfolding evacuated scanned

@@ -120,7 +120,8 @@ module _ (Y : Layout) (K : Marks Y) (s : State) (v : SoundTests Y s) where
     free = after-roots .free;
     gone = [];
     rest = orderAt Y s 0;
-    cursor = record { split = refl; stands = refl; fields = λ d l. absurd (omega arith); others = λ d l. absurd (omega arith) };
+    cursor =
+        record { split = refl; stands = refl; fields = λ d l. absurd (omega arith); others = λ d l. absurd (omega arith) };
   }
 
   -- ---- the scan

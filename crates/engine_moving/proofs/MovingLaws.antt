@@ -19,7 +19,8 @@ use Rattle.engine_moving.specs.Moving.{left, moved, relocated, renamed}
 
 module _ (Y : Layout) where
   module _ (h : List ℕ) (i f : ℕ) where
-    pub relocated-copied : Y .isHeader (at h i) ≡ true → relocated Y h i f ≡ left (moved Y h i f) (address Y f) (f + size Y h i) Copied
+    pub relocated-copied : Y .isHeader (at h i) ≡ true
+        → relocated Y h i f ≡ left (moved Y h i f) (address Y f) (f + size Y h i) Copied
     unfolding relocated
     relocated-copied e = rw e
 
@@ -39,8 +40,10 @@ module _ (Y : Layout) where
         let z : f + 1 + n ≡ f + (n + 1) = omega arith in
         rw (relocated-copied e, em, ea, eh, run-whole n, z, en)
 
-    pub copied-same : (n w m : ℕ) (h₁ : List ℕ) → h₁ ≡ copiedRun (set h f w) (i + 1) (f + 1) n → length (set h₁ i m) ≡ length h
-    copied-same n w m h₁ e = length-set h₁ i m ∙ ap length e ∙ copied-length (set h f w) (i + 1) (f + 1) n ∙ length-set h f w
+    pub copied-same : (n w m : ℕ) (h₁ : List ℕ) → h₁ ≡ copiedRun (set h f w) (i + 1) (f + 1) n
+        → length (set h₁ i m) ≡ length h
+    copied-same n w m h₁ e =
+        length-set h₁ i m ∙ ap length e ∙ copied-length (set h f w) (i + 1) (f + 1) n ∙ length-set h f w
 
     pub found-is : (a : ℕ) → Y .isHeader (at h i) ≡ false → a ≡ Y .unmark (at h i) → left h a f Found ≡ relocated Y h i f
     found-is a e ea = rw (relocated-found e, ea)

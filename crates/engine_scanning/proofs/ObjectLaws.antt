@@ -10,9 +10,12 @@ use lib.ListN.{length}
 use Rattle.model.specs.Words.{at}
 use Rattle.model.specs.Headers.{Layout}
 use Rattle.model.specs.Objects.{isTraced, size}
-use Rattle.engine_scanning.specs.Scanning.{Scan, scan, between, After, after, freed, ended, onward, valuesOf, rawsOf, fieldPassed, passed, run, MayPass, SafeRun, MayPassField, MayPassFields, MayPassObject}
+use Rattle.engine_scanning.specs.Scanning.{Scan, scan, between, After, after, freed, ended, onward, valuesOf, rawsOf}
+use Rattle.engine_scanning.specs.Scanning.{fieldPassed, passed, run, MayPass, SafeRun, MayPassField, MayPassFields}
+use Rattle.engine_scanning.specs.Scanning.{MayPassObject}
 use Rattle.engine_scanning.proofs.PassingLaws.{passed-header, passed-raw, passed-value, Keeps, passed-keeps}
-use Rattle.engine_scanning.proofs.RunLaws.{run-done, run-step, safe-room, turn-may, turn-run, turn-safe, run-at, run-cut, safe-first, safe-rest, run-length}
+use Rattle.engine_scanning.proofs.RunLaws.{run-done, run-step, safe-room, turn-may, turn-run, turn-safe, run-at}
+use Rattle.engine_scanning.proofs.RunLaws.{run-cut, safe-first, safe-rest, run-length}
 
 module _ (Y : Layout) where
   -- ---- the field at i, those from e on no fields
@@ -40,13 +43,15 @@ module _ (Y : Layout) where
       step-is : after h′ (scan (i + 1) (e - (i + 1)) 0 f′) ≡ passed Y h here
       step-is =
           let less : e - (i + 1) ≡ e - i - 1 = omega arith in
-          ap (λ (x : ℕ). after h′ (scan (i + 1) x 0 f′)) less ∙ ap (onward here (e - i - 1) 0) q ∙ sym (passed-value Y h here values-left)
+          ap (λ (x : ℕ). after h′ (scan (i + 1) x 0 f′)) less ∙ ap (onward here (e - i - 1) 0) q
+          ∙ sym (passed-value Y h here values-left)
 
       pub field-keeps : Keeps Y h here (after h′ (scan (i + 1) (e - (i + 1)) 0 f′))
       field-keeps = subst (Keeps Y h here) (sym step-is) (passed-keeps Y h here)
 
       pub field-run : run Y (e - (i + 1)) h′ (scan (i + 1) (e - (i + 1)) 0 f′) ≡ run Y (e - i) h here
-      field-run = turn-run Y h here before (e - i) (e - (i + 1)) some-left (after h′ (scan (i + 1) (e - (i + 1)) 0 f′)) step-is
+      field-run =
+          turn-run Y h here before (e - i) (e - (i + 1)) some-left (after h′ (scan (i + 1) (e - (i + 1)) 0 f′)) step-is
 
       pub field-safe : SafeRun Y (e - (i + 1)) h′ (scan (i + 1) (e - (i + 1)) 0 f′)
       field-safe = turn-safe Y h here before (e - i) (e - (i + 1)) some-left (after h′ (scan (i + 1) (e - (i + 1)) 0 f′)) step-is safe
@@ -92,7 +97,8 @@ module _ (Y : Layout) where
       header-is = rw (ev, er) (sym (passed-header Y h (between i f) refl refl))
 
       header-run : run Y n h (scan (i + 1) v r f) ≡ run Y (size Y h i) h (between i f)
-      header-run = turn-run Y h (between i f) (may .before) (size Y h i) n (add-one n) (after h (scan (i + 1) v r f)) header-is
+      header-run =
+          turn-run Y h (between i f) (may .before) (size Y h i) n (add-one n) (after h (scan (i + 1) v r f)) header-is
 
       header-safe : SafeRun Y n h (scan (i + 1) v r f)
       header-safe =
@@ -133,7 +139,8 @@ module _ (Y : Layout) where
     safe-cut = subst (λ (k : ℕ). SafeRun Y k h (between i f)) fuel safe
 
     pub object-may : MayPassObject Y h i f
-    object-may = record { before = more; safe = safe-first Y (size Y h i) (length h - (i + size Y h i)) h (between i f) safe-cut }
+    object-may =
+        record { before = more; safe = safe-first Y (size Y h i) (length h - (i + size Y h i)) h (between i f) safe-cut }
 
     module _ (h′ : List ℕ) (i′ f′ : ℕ) (e : after h′ (between i′ f′) ≡ run Y (size Y h i) h (between i f)) where
       pub object-length : length h′ ≡ length h

@@ -20,7 +20,8 @@ module _ (Y : Layout) where
 
   module _ (h : List ℕ) (i f : ℕ) where
     -- a field that named no object need not be written
-    pub field-plain : (l : Left) → l ≡ renamed Y h (at h i) f → l .met ≡ Plain → freed (l .heap) (l .free) ≡ fieldPassed Y h i f
+    pub field-plain : (l : Left) → l ≡ renamed Y h (at h i) f → l .met ≡ Plain
+        → freed (l .heap) (l .free) ≡ fieldPassed Y h i f
     field-plain l e p =
         let n : renamed Y h (at h i) f ≡ left h (at h i) f Plain = renamed-nothing Y h (at h i) f (ap (λ (x : Left). x .met) (sym e) ∙ p) in
         rw (e, n) (ap (λ (x : List ℕ). freed x f) (sym (set-getD h i 0)))
@@ -40,7 +41,8 @@ module _ (Y : Layout) where
     unfolding passed
     passed-raw v r = rw (eq-eqb (c .values) 0 v, ne-eqb (c .raws) 0 r)
 
-    pub passed-value : (c .values ≡ 0 → ⊥) → passed Y h c ≡ onward c (c .values - 1) (c .raws) (fieldPassed Y h (c .at) (c .free))
+    pub passed-value : (c .values ≡ 0 → ⊥)
+        → passed Y h c ≡ onward c (c .values - 1) (c .raws) (fieldPassed Y h (c .at) (c .free))
     unfolding passed
     passed-value v = rw (ne-eqb (c .values) 0 v)
 

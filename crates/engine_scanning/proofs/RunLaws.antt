@@ -18,7 +18,8 @@ module _ (Y : Layout) where
   run-done zero h c d = refl
   run-done (suc n) h c d = rw (le-ltb (c .at) (c .free) d)
 
-  pub run-step : (n : ℕ) (h : List ℕ) (c : Scan) → c .at < c .free → run Y (suc n) h c ≡ run Y n (passed Y h c .heap) (passed Y h c .scan)
+  pub run-step : (n : ℕ) (h : List ℕ) (c : Scan) → c .at < c .free
+      → run Y (suc n) h c ≡ run Y n (passed Y h c .heap) (passed Y h c .scan)
   unfolding run
   run-step n h c d = rw (lt-ltb (c .at) (c .free) d)
 
@@ -39,14 +40,17 @@ module _ (Y : Layout) where
 
     module _ (a : After) (e : a ≡ passed Y h c) where
       pub turn-run : run Y k (a .heap) (a .scan) ≡ run Y n h c
-      turn-run = ap (λ (x : After). run Y k (x .heap) (x .scan)) e ∙ sym (run-step k h c more) ∙ ap (λ (x : ℕ). run Y x h c) (sym first)
+      turn-run =
+          ap (λ (x : After). run Y k (x .heap) (x .scan)) e ∙ sym (run-step k h c more)
+          ∙ ap (λ (x : ℕ). run Y x h c) (sym first)
 
       pub turn-safe : SafeRun Y n h c → SafeRun Y k (a .heap) (a .scan)
       turn-safe s = subst (λ (x : After). SafeRun Y k (x .heap) (x .scan)) (sym e) (safe-step k h c more (rw first at s) .1)
 
   -- ---- n words that lie before the free words are all passed
 
-  still-before : (n : ℕ) (h : List ℕ) (c : Scan) → c .at + suc n ≤ c .free → passed Y h c .scan .at + n ≤ passed Y h c .scan .free
+  still-before : (n : ℕ) (h : List ℕ) (c : Scan) → c .at + suc n ≤ c .free
+      → passed Y h c .scan .at + n ≤ passed Y h c .scan .free
   still-before n h c l = let k = passed-keeps Y h c in omega (arith, k .next, k .grows)
 
   pub run-at : (n : ℕ) (h : List ℕ) (c : Scan) → c .at + n ≤ c .free → run Y n h c .scan .at ≡ c .at + n

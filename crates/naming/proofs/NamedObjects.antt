@@ -42,7 +42,8 @@ module _ (Y : Layout) where
       leb-true _ _
       (and-both (isAddress w && eqb (w % 4) 0 && leb (firstWord s) i && ltb i (free s) && Y .isHeader (at (s .heap) i)) _ h .1)
 
-  pub header-in : (H R : List ℕ) (q : Record) (w : ℕ) → FreeInHeap H q → names Y (stateOf H R q) w ≡ true → index Y w < length H
+  pub header-in : (H R : List ℕ) (q : Record) (w : ℕ) → FreeInHeap H q → names Y (stateOf H R q) w ≡ true
+      → index Y w < length H
   header-in H R q w g h = omega (arith, named-ends (stateOf H R q) w h)
 
   -- the same where SHAPE was tested, of the index as the code has it

@@ -37,7 +37,8 @@ answered (Refused k) s next = says (Says.Refused k) s
 pub same-number : {x y : ℕ} (s : State) → x ≡ y → says (Says.Number x) s ≡ says (Says.Number y) s
 same-number s e = ap (λ (x : ℕ). says (Says.Number x) s) e
 
-pub written : {r : Answered} {o : Outcome State} {y : ℕ} (s : State) (i x : ℕ) → r ≡ record { answer = Says.Done; «record» = s .«record» }
+pub written : {r : Answered} {o : Outcome State} {y : ℕ} (s : State) (i x : ℕ)
+    → r ≡ record { answer = Says.Done; «record» = s .«record» }
     → says Says.Done (withWord s i y) ≡ o → x ≡ y → outcomeOf r (set (s .heap) i x) (s .roots) ≡ o
 written s i x e f n = said _ _ e (ap (λ (x : ℕ). says Says.Done (withWord s i x)) n ∙ f)
 

@@ -1,5 +1,5 @@
--- An allocation of either kind, and what goes back to C: done at once, where the record that came has a half, since with none nothing
--- fits; or by the whole call.
+-- An allocation of either kind, and what goes back to C: done at once, where the record that came has a
+-- half, since with none nothing fits; or by the whole call.
 use Prim.Native.Nat.{ℕ}
 use mathlib.Core.Path.{_≡_, refl, ap, _∙_, subst}
 use mathlib.Core.Bool.{Bool, true, false}

@@ -35,7 +35,8 @@ module _ (Y : Layout) (s : State) (k : Kind) (n r : ℕ) where
   placed-is = rw (cleared-sets, add-one (free s))
 
   -- from what each call answers
-  pub placed-by : (header a : ℕ) (h₁ : List ℕ) → header ≡ Y .header k n → h₁ ≡ cleared (set (s .heap) (free s) header) (free s + 1) n
+  pub placed-by : (header a : ℕ) (h₁ : List ℕ) → header ≡ Y .header k n
+      → h₁ ≡ cleared (set (s .heap) (free s) header) (free s + 1) n
       → a ≡ address Y (free s)
       → stateOf h₁ (set (s .roots) r a) (record { half = s .«record» .half; free = record { 0 = free s + (n + 1) } }) ≡ placed Y k n r s
   placed-by header a h₁ e f g = rw (placed-is, f, e, g)
@@ -52,10 +53,12 @@ may-place s n r h l c f =
 
 -- ---- an allocation that fits
 
-pub allocate-now : (Y : Layout) (k : Kind) (n r : ℕ) (s : State) → badShape s ≡ false → r < length (s .roots) → n ≤ maxFields → n < spare s
+pub allocate-now : (Y : Layout) (k : Kind) (n r : ℕ) (s : State) → badShape s ≡ false → r < length (s .roots)
+    → n ≤ maxFields → n < spare s
     → Calls.allocate Y k n r s ≡ says Says.Done (placed Y k n r s)
 unfolding Calls.allocate refuse
-allocate-now Y k n r s b l c f = rw (b, lt-leb (length (s .roots)) r l, le-ltb maxFields n c, le-leb (n + 1) (spare s) (omega arith))
+allocate-now Y k n r s b l c f =
+    rw (b, lt-leb (length (s .roots)) r l, le-ltb maxFields n c, le-leb (n + 1) (spare s) (omega arith))
 
 -- ---- at once
 

@@ -50,9 +50,11 @@ pub cleared-outside : (h : List ℕ) (from n k : ℕ) → Outside from n k → a
 unfolding cleared
 cleared-outside h from zero k o = refl
 cleared-outside h from (suc n) k o =
-    getD-set-other (cleared h from n) (from + n) k 0 0 (outside-last from n k o) ∙ cleared-outside h from n k (outside-less from n k o)
+    getD-set-other (cleared h from n) (from + n) k 0 0 (outside-last from n k o)
+    ∙ cleared-outside h from n k (outside-less from n k o)
 
-pub cleared-inside : (h : List ℕ) (from n k : ℕ) → from + n ≤ length h → from ≤ k → k < from + n → at (cleared h from n) k ≡ 0
+pub cleared-inside : (h : List ℕ) (from n k : ℕ) → from + n ≤ length h → from ≤ k → k < from + n
+    → at (cleared h from n) k ≡ 0
 unfolding cleared
 cleared-inside h from zero k a b c = absurd (omega arith)
 cleared-inside h from (suc n) k a b c =
@@ -68,7 +70,8 @@ cleared-front : (h : List ℕ) (i n : ℕ) → cleared (set h i 0) (suc i) n ≡
 unfolding cleared
 cleared-front h i zero = ap (λ (x : ℕ). set h x 0) (sym (add-zero i))
 cleared-front h i (suc n) =
-    ap (λ (x : List ℕ). set x (suc i + n) 0) (cleared-front h i n) ∙ ap (λ (x : ℕ). set (cleared h i (suc n)) x 0) (omega arith)
+    ap (λ (x : List ℕ). set x (suc i + n) 0) (cleared-front h i n)
+    ∙ ap (λ (x : ℕ). set (cleared h i (suc n)) x 0) (omega arith)
 
 pub cleared-sets : (h : List ℕ) (i n : ℕ) → cleared h i n ≡ sets h i (replicate n 0)
 unfolding cleared
@@ -86,7 +89,8 @@ pub copied-outside : (h : List ℕ) (from to n k : ℕ) → Outside to n k → a
 unfolding copiedRun
 copied-outside h from to zero k o = refl
 copied-outside h from to (suc n) k o =
-    getD-set-other (copiedRun h from to n) (to + n) k _ 0 (outside-last to n k o) ∙ copied-outside h from to n k (outside-less to n k o)
+    getD-set-other (copiedRun h from to n) (to + n) k _ 0 (outside-last to n k o)
+    ∙ copied-outside h from to n k (outside-less to n k o)
 
 pub copied-inside : (h : List ℕ) (from to n j : ℕ) → Apart from to n → to + n ≤ length h → j < n
     → at (copiedRun h from to n) (to + j) ≡ at h (from + j)
@@ -104,7 +108,8 @@ copied-inside h from to (suc n) j o a b =
     (same? j n)
 
 -- the first word may be stored by itself
-pub copied-front : (h : List ℕ) (from to n : ℕ) → copiedRun (set h to (at h from)) (from + 1) (to + 1) n ≡ copiedRun h from to (suc n)
+pub copied-front : (h : List ℕ) (from to n : ℕ)
+    → copiedRun (set h to (at h from)) (from + 1) (to + 1) n ≡ copiedRun h from to (suc n)
 unfolding copiedRun
 copied-front h from to zero =
     ap (λ (x : ℕ). set h x (at h from)) (sym (add-zero to)) ∙ ap (λ (x : ℕ). set h (to + 0) (at h x)) (sym (add-zero from))
@@ -157,5 +162,6 @@ pub zero-passed : (h : List ℕ) (from m n : ℕ) → m ≤ n → all isNull (ru
     → all isNull (run h (from + m) (n - m)) ≡ all isNull (run h from n)
 zero-passed h from m n l e = sym (zero-parts h from m n true l e)
 
-pub zero-failed : (h : List ℕ) (from m n : ℕ) → m ≤ n → all isNull (run h from m) ≡ false → all isNull (run h from n) ≡ false
+pub zero-failed : (h : List ℕ) (from m n : ℕ) → m ≤ n → all isNull (run h from m) ≡ false
+    → all isNull (run h from n) ≡ false
 zero-failed h from m n l e = zero-parts h from m n false l e

@@ -33,7 +33,8 @@ module _ (Y : Layout) (s : State) (r : ℕ) (h : badShape s ≡ false) (l : r < 
     inspect-nothing n =
         simp (h, lt-leb (length (s .roots)) r l, ne-eqb (rootWord s r % 2) 1 o, ne-eqb (rootWord s r) 0 z, n)
 
-    pub inspect-object : (i n : ℕ) (k : Kind) → i ≡ index Y (rootWord s r) → k ≡ kind Y (s .heap) i → n ≡ fieldCount Y (s .heap) i
+    pub inspect-object : (i n : ℕ) (k : Kind) → i ≡ index Y (rootWord s r) → k ≡ kind Y (s .heap) i
+        → n ≡ fieldCount Y (s .heap) i
         → names Y s (rootWord s r) ≡ true → says (Says.Object k n) s ≡ inspect Y r s
     unfolding inspect refuse
     inspect-object i n k e f g d =

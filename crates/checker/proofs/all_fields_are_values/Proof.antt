@@ -1,5 +1,5 @@
--- `checker::all_fields_are_values` meets its contract. Invariant: the objects left are right exactly where all are, and tile what is
--- left.
+-- `checker::all_fields_are_values` meets its contract. Invariant: the objects left are right exactly where
+-- all are, and tile what is left.
 use Prim.Native.Nat.{_-_}
 use native.Mathlib.Omega.{arith}
 use mathlib.Core.Path.{_≡_, refl, sym, _∙_}

@@ -1,4 +1,5 @@
--- `engine::visit_roots` meets its contract. The invariant: the roots renamed so far, with what the others give, are what all gave.
+-- `engine::visit_roots` meets its contract. The invariant: the roots renamed so far, with what the others
+-- give, are what all gave.
 use Prim.Native.Nat.{_-_, _≤_, _<_}
 use native.Mathlib.Omega.{arith}
 use mathlib.Core.Path.{_≡_, refl, sym, _∙_}

@@ -1,4 +1,5 @@
--- `engine_scanning::pass_fields` meets its contract. The invariant: to pass the fields that are left gives what passing all gave.
+-- `engine_scanning::pass_fields` meets its contract. The invariant: to pass the fields that are left gives
+-- what passing all gave.
 use Prim.Native.Nat.{_+_, _-_, _≤_}
 use native.Mathlib.Omega.{arith}
 use mathlib.Core.Path.{_≡_, refl, sym, _∙_}

@@ -1,4 +1,5 @@
--- `engine_scanning::pass_object` meets its contract: the header is one word of the run, and its fields or raw words are the others.
+-- `engine_scanning::pass_object` meets its contract: the header is one word of the run, and its fields or
+-- raw words are the others.
 use native.Mathlib.Omega.{arith}
 use mathlib.Core.Path.{sym, _∙_}
 use Rattle.engine_scanning.proofs.ObjectLaws.{object-within, fields-may, traced-is, untraced-is}

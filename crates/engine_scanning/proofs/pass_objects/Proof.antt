@@ -4,7 +4,8 @@ use mathlib.Core.Path.{_≡_, refl, ap, _∙_}
 use lib.ListN.{length}
 use Rattle.model.specs.Headers.{tuple}
 use Rattle.engine_scanning.specs.Scanning.{between, ended, run, SafeRun}
-use Rattle.engine_scanning.proofs.ObjectLaws.{object-may, object-length, object-less, object-run, object-safe, objects-done}
+use Rattle.engine_scanning.proofs.ObjectLaws.{object-may, object-length, object-less, object-run, object-safe}
+use Rattle.engine_scanning.proofs.ObjectLaws.{objects-done}
 use Rattle.engine_scanning.proofs.pass_objects.Statement.{statement}
 use Rattle.engine_scanning.proofs.pass_objects.Tie as tie
 use Rattle.engine_scanning.proofs.pass_objects.Reads as reads

@@ -15,7 +15,8 @@ use Rattle.words.proofs.shape.half_words.Reads as half-words-reads
 -- the half's first word, by the heap's length
 first : (c : tie.After-first-of) → let s = c .before .before in
     c .first-of .result .0 ≡ firstOf (halfWordsOf (s .args .length)) (s .args .«record» .half)
-first c = first-by-length _ (c .before .before .args .«record» .half) (c .first-of .ensures) (c .before .half-words .ensures)
+first c =
+    first-by-length _ (c .before .before .args .«record» .half) (c .first-of .ensures) (c .before .half-words .ensures)
 
 half-words-requires : tie.Need-half-words-requires
 half-words-requires c κs = search needs

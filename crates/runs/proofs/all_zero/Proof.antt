@@ -14,7 +14,8 @@ use Rattle.runs.proofs.all_zero.Lts as lts
 use Rattle.runs.proofs.bits.Reads as bits-reads
 
 abbrev Inv-loop : tie.InvT-loop
-Inv-loop heap from n at₀ left₀ at left = (at + left ≡ from + n) × (all isNull (run heap at left) ≡ all isNull (run heap from n))
+Inv-loop heap from n at₀ left₀ at left =
+    (at + left ≡ from + n) × (all isNull (run heap at left) ≡ all isNull (run heap from n))
 
 abbrev μ-loop : tie.MeasureT-loop
 μ-loop heap from n at₀ left₀ at left = left

@@ -1,5 +1,5 @@
--- `window::count_of` meets its contract, variant by variant, as the definition goes. The search finds all of it; it is written out
--- so that a wrong count is refused here, and not where `count` cites it.
+-- `window::count_of` meets its contract, variant by variant, as the definition goes. The search finds all
+-- of it; it is written out so that a wrong count is refused here, and not where `count` cites it.
 use borrow.Author.Needs.{needs}
 use Rattle.window.proofs.count_of.Statement.{statement}
 use Rattle.window.proofs.count_of.Tie as tie

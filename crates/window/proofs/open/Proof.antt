@@ -1,5 +1,5 @@
--- `window::open` meets its contract, by a walk of its code: `find` is called on copies of both slices, and the heap's words go into
--- the window with its answer.
+-- `window::open` meets its contract, by a walk of its code: `find` is called on copies of both slices, and
+-- the heap's words go into the window with its answer.
 use mathlib.Core.Path.{_≡_, refl, ap, subst}
 use Prim.Native.Nat.{ℕ, _<_, _^_}
 use mathlib.Core.List.{[], _∷_, List}
@@ -16,9 +16,11 @@ use prog.Wp.{Heap, Calls, Loops, WpFn, Tables}
 use ghost.Atoms.{Atoms, sem}
 use contract.Monad.{Fun, fact}
 use contract.Running.{givenOf, tables, tablesOf}
-use types.Kit.{Given, ‵, raw, _⊛_, ⋆, some, later, _$_, _∵_, !, qed, by, move, drop, use1, use2, split, join, pick, rewrite, fsplit, fjoin, suffices, frame, await, done}
+use types.Kit.{Given, ‵, raw, _⊛_, ⋆, some, later, _$_, _∵_, !, qed, by, move, drop, use1, use2, split, join, pick, rewrite}
+use types.Kit.{fsplit, fjoin, suffices, frame, await, done}
 use types.Part.{agg}
-use types.Run.{look, init, forget, stop, from, load, and-then, no-more, assigns, land, returns, enter, alloc1, alloc0, params1, pass1, pass0, free1, free0}
+use types.Run.{look, init, forget, stop, from, load, and-then, no-more, assigns, land, returns, enter, alloc1, alloc0}
+use types.Run.{params1, pass1, pass0, free1, free0}
 use sound.WpLaws.{FmC, fmOf, WpFn-mono}
 use denote.RattleType.{owns}
 use denote.Laws.{Is, shows}
@@ -36,7 +38,8 @@ use denote.Triple.Call.{calls-at}
 use denote.Triple.Entry.{onEntry}
 use denote.Triple.Spec.{Meets, tripleOf}
 use denote.Triple.Table.{entered, cited}
-use denote.Triple.Walked.{says, Stays, stay-none, stay-none-slice, walkOf, goes-none, goes-none-slice, Walks, ends-at, walked, walk-meets}
+use denote.Triple.Walked.{says, Stays, stay-none, stay-none-slice, walkOf, goes-none, goes-none-slice, Walks, ends-at}
+use denote.Triple.Walked.{walked, walk-meets}
 use denote.Exit.{yes}
 use denote.Triple.Clauses.{ensured, lasts}
 use Rattle.model.specs.Words.{stateOf}
@@ -131,7 +134,8 @@ module _ {M : Type 1} (𝓤 : URA M) (H : Heap 𝓤) (A : Atoms 𝓤) (W : Given
   abbrev found : Place
   found = Windows.window Layouts.tuple object (stateOf (now x₀) (now x₁) q)
 
-  said : (r : Place) → ent 𝓤 (ensured 𝓤 H A callee.ended (callee.clauses 𝓤 H A mem run) (κ₀, (κ₁, tt)) a tt r) (fact 𝓤 (r ≡ found))
+  said : (r : Place)
+      → ent 𝓤 (ensured 𝓤 H A callee.ended (callee.clauses 𝓤 H A mem run) (κ₀, (κ₁, tt)) a tt r) (fact 𝓤 (r ≡ found))
   said r = exE 𝓤 _ (λ ws. snd∗ 𝓤 (sem 𝓤 H A (lasts callee.ended (κ₀, (κ₁, tt)) a ws)) (fact 𝓤 (r ≡ found)))
 
   abbrev pv : Place → Val
