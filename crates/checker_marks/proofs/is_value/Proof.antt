@@ -9,6 +9,16 @@ use Rattle.checker_marks.proofs.is_value.Reads as reads
 use Rattle.checker_marks.proofs.is_value.Lts as lts
 use Rattle.words.proofs.tuple.Tuple.index_of.Reads as index-of-reads
 
+-- past the test of the low bits, at the index, and past the test of the used part's first word
+abbrev aligned : tie.After-index-of → tie.Else3
+aligned c = c .before
+
+abbrev indexed : tie.Else4 → tie.After-index-of
+indexed c = c .before
+
+abbrev past : tie.After-struct-known → tie.Else4
+past c = c .before
+
 returns : tie.Need-returns
 returns c = sym (value-odd _ _ _ _ (c .if1 .taken))
 
@@ -23,20 +33,18 @@ index-of-requires c κs = search needs
 
 returns-4 : tie.Need-returns-4
 returns-4 c =
-    let indexed = c .before in
-    let aligned = indexed .before in
+    let i = c .before in
     sym
-    (value-low _ _ _ _ (omega arith) (aligned .before .if2 .left) _ (indexed .index-of .ensures)
-    (aligned .if3 .left) (c .if4 .taken))
+    (value-low _ _ _ _ (omega arith) (aligned i .before .if2 .left) _ (i .index-of .ensures)
+    (aligned i .if3 .left) (c .if4 .taken))
 
 returns-5 : tie.Need-returns-5
 returns-5 c =
-    let past = c .before .before in
-    let indexed = past .before in
-    let aligned = indexed .before in
+    let low = past (c .before) in
+    let i = indexed low in
     sym
-    (value-high _ _ _ _ (omega arith) (aligned .before .if2 .left) _ (indexed .index-of .ensures)
-    (aligned .if3 .left) (past .if4 .left) (c .if5 .taken))
+    (value-high _ _ _ _ (omega arith) (aligned i .before .if2 .left) _ (i .index-of .ensures)
+    (aligned i .if3 .left) (low .if4 .left) (c .if5 .taken))
 
 add-result : tie.Need-add-result
 add-result c = search needs
@@ -50,12 +58,11 @@ shared-slice-read-result c = search needs
 returns-6 : tie.Need-returns-6
 returns-6 c =
     let below = c .before in
-    let past = below .before .before in
-    let indexed = past .before in
-    let aligned = indexed .before in
+    let low = past (below .before) in
+    let i = indexed low in
     sym
-    (value-marked _ _ _ _ (omega arith) (aligned .before .if2 .left) _ (indexed .index-of .ensures)
-    (aligned .if3 .left) (past .if4 .left) (below .if5 .left))
+    (value-marked _ _ _ _ (omega arith) (aligned i .before .if2 .left) _ (i .index-of .ensures)
+    (aligned i .if3 .left) (low .if4 .left) (below .if5 .left))
 
 pub is-value-spec : {M : Type 1} → statement M
 is-value-spec =

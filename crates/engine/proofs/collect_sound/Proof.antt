@@ -12,15 +12,14 @@ use Rattle.words.proofs.shape.first_of.Reads as first-of-reads
 use Rattle.words.proofs.shape.half_words.Reads as half-words-reads
 use Rattle.words.proofs.shape.other_half.Reads as other-half-reads
 
--- where both halves begin is known once `first_of` has answered twice
-abbrev halved : tie.After-first-of2 → tie.After-half-words
-halved c = c .before .before .before
-
--- where the call begins
+-- where the call begins, and the half's words are known
 abbrev start : tie.After-half-words → tie.Start
 start c = c .before .before .before
 
--- where both halves begin is known, and the heap is evacuated
+abbrev halved : tie.After-first-of2 → tie.After-half-words
+halved c = c .before .before .before
+
+-- where both halves begin is known, once `first_of` has answered twice; and the heap is evacuated
 abbrev there : tie.After-evacuate-arg2 → tie.After-first-of2
 there c = c .before .before .before .before
 

@@ -35,6 +35,10 @@ found c = c .before
 abbrev indexed : tie.Else2 → tie.After-index-of
 indexed c = c .before .before .before
 
+-- past the test of its kind
+abbrev kept : tie.After-count-of → tie.Else2
+kept c = c .before
+
 named : (c : tie.Else1) (R : List ℕ) → let s = start c in not (names tuple (lent s R) (s .args .word)) ≡ false
 named c R = ap not (sym (c .before .names .ensures R)) ∙ c .if1 .left
 
@@ -73,11 +77,11 @@ count-of-requires c κs = search needs
 returns-3 : tie.Need-returns-3
 returns-3 c = λ R.
     let counted = c .before in
-    let kept = counted .before in
-    let i = indexed kept in
+    let kind = kept counted in
+    let i = indexed kind in
     let s = start (found i) in
     field-tests _ _ _ _ _ (lent s R) (i .index-of .ensures) (named (found i) R)
-    (ap not (sym (kept .before .is-of-kind .ensures)) ∙ kept .if2 .left)
+    (ap not (sym (kind .before .is-of-kind .ensures)) ∙ kind .if2 .left)
     (ap (λ (n : ℕ). leb n (s .args .field)) (sym (counted .count-of .ensures .0))
     ∙ le-leb (counted .count-of .result) (s .args .field) (omega arith))
 
@@ -90,11 +94,11 @@ add-t18 c = search needs
 returns-4 : tie.Need-returns-4
 returns-4 c = λ R.
     let counted = c .before in
-    let kept = counted .before in
-    let i = indexed kept in
+    let kind = kept counted in
+    let i = indexed kind in
     let s = start (found i) in
     field-tests _ _ _ _ _ (lent s R) (i .index-of .ensures) (named (found i) R)
-    (ap not (sym (kept .before .is-of-kind .ensures)) ∙ kept .if2 .left)
+    (ap not (sym (kind .before .is-of-kind .ensures)) ∙ kind .if2 .left)
     (ap (λ (n : ℕ). leb n (s .args .field)) (sym (counted .count-of .ensures .0)) ∙ lt-leb _ _ (c .if3 .left))
 
 pub field-of-spec : {M : Type 1} → statement M
