@@ -46,7 +46,8 @@ module _ (Y : Layout) (k : Kind) (n r : ℕ) (s : State) where
   retried-damaged e = rw e
 
   -- after a collection that left s′, with m words spare
-  module _ (e : sound Y s ≡ true) (s′ : State) (l : s′ ≡ collected Y s) (m : ℕ) (p : m ≡ spareOf (length (s′ .heap)) (s′ .«record»)) where
+  module _ (e : sound Y s ≡ true) (s′ : State) (l : s′ ≡ collected Y s) (m : ℕ)
+      (p : m ≡ spareOf (length (s′ .heap)) (s′ .«record»)) where
     spare-is : m ≡ spare (collected Y s)
     spare-is = p ∙ ap (λ (x : State). spare x) l
 

@@ -47,7 +47,8 @@ module _ (H : List ℕ) (p : Part) (S : ℕ) where
   -- n words of the half of the marks were tested, with the answer b, and m words from the free index on;
   -- that these lie in the heap settles for the prover which n and m they are
   module _ (z : at H 0 ≡ 0)
-      (n : ℕ) (within : p .marks .0 + n ≤ length H) (b : Bool) (e : b ≡ all isNull (run H (p .marks .0) n)) (half : n ≡ S) where
+      (n : ℕ) (within : p .marks .0 + n ≤ length H) (b : Bool)
+      (e : b ≡ all isNull (run H (p .marks .0) n)) (half : n ≡ S) where
     idle-is : b ≡ all isNull (run H (p .marks .0) S)
     idle-is = e ∙ ap (λ (k : ℕ). all isNull (run H (p .marks .0) k)) half
 

@@ -37,7 +37,8 @@ all-same f g [] e = refl
 all-same f g (x ∷ xs) e = rw (e x (in-self x xs), all-same f g xs (λ i m. e i (in-tail i x xs m)))
 
 -- ---- a part that lies in the heap and shares no word with its marks
-module _ (Y : Layout) (H : List ℕ) (p : Part) (fits : Fits H p) (apart : Apart (p .first .0) (p .marks .0) (usedWords p)) where
+module _ (Y : Layout) (H : List ℕ) (p : Part) (fits : Fits H p)
+    (apart : Apart (p .first .0) (p .marks .0) (usedWords p)) where
   -- the marked heap, and the headers
   abbrev M : List ℕ
   M = marked Y H p .heap
@@ -116,7 +117,8 @@ module _ (Y : Layout) (H : List ℕ) (p : Part) (fits : Fits H p) (apart : Apart
           let t = headers-tile Y H (p .free .0) (usedWords p) (p .first .0) i tiled m in
           let l : p .first .0 ≤ i = t .from in
           let w = t .within in
-          ap (λ (w : ℕ). not (isTraced (Y .kindOf w)) || all (isValueByMarks Y M p) (fieldWords Y M i)) (agree i l (omega arith))
+          ap (λ (w : ℕ). not (isTraced (Y .kindOf w)) || all (isValueByMarks Y M p) (fieldWords Y M i))
+          (agree i l (omega arith))
           ∙ ap (λ (ws : List ℕ). not (isTraced (kind Y H i)) || all (isValueByMarks Y M p) ws) (fields-agree Y p M H agree lengths i l w)
           ∙ ap (λ (b : Bool). not (isTraced (kind Y H i)) || b)
           (all-same (isValueByMarks Y M p) (isValue Y hs) (fieldWords Y H i) (λ x _. value-is x))
@@ -208,7 +210,8 @@ module _ (Y : Layout) (s : State) (fair : badShape s ≡ false) where
         let a = and-both (isNull (at H 0) && allZero H (otherFirst s) (otherFirst s + halfWords H))
         (allZero H (free s) (firstWord s + halfWords H)) clean in
         let b = and-both (isNull (at H 0)) (allZero H (otherFirst s) (otherFirst s + halfWords H)) (a .0) in
-        zeros-at H (otherFirst s) (otherFirst s + halfWords H) k (other-in s shape .1) (b .1) l (omega (arith, shape .high, shape .low))
+        zeros-at H (otherFirst s) (otherFirst s + halfWords H) k (other-in s shape .1) (b .1) l
+        (omega (arith, shape .high, shape .low))
 
     pub sound-clean : sound Y s ≡ usedPartSound Y (s .heap) (s .roots) P
     sound-clean = sound-parted ∙ rw clean (sym (used-part-is Y (s .heap) P fits apart idle (s .roots)))

@@ -42,7 +42,8 @@ module _ (Y : Layout) (K : Marks Y) (s : State) (e : sound Y s ≡ true) where
     pub may-evacuate : SafeEvacuation Y (s .heap) (s .roots) old (free s - old) new
     may-evacuate = rw (old-is, new-is) (safe Y K s v)
 
-    module _ (h′ rs′ : List ℕ) (end : ℕ) (q : emptied h′ rs′ end ≡ evacuated Y (s .heap) (s .roots) old (free s - old) new) where
+    module _ (h′ rs′ : List ℕ) (end : ℕ)
+        (q : emptied h′ rs′ end ≡ evacuated Y (s .heap) (s .roots) old (free s - old) new) where
       there : emptied h′ rs′ end ≡ leaves Y K s v
       there =
           q ∙ ap (λ (x : ℕ). evacuated Y (s .heap) (s .roots) x (free s - x) new) old-is

@@ -152,7 +152,8 @@ module _ (Y : Layout) (K : Marks Y) (s : State) (v : SoundTests Y s) where
       let a : q ≤ length (packed (cells Y (s .heap)) (orderAt Y s q)) = reached p .scans .mid .ahead in
       let g : length (packed (cells Y (s .heap)) (orderAt Y s q)) ≤ halfWords (s .heap) = order-room Y s v q in
       let l : length (packed (cells Y (s .heap)) (orderAt Y s q)) ≤ length (packed (cells Y (s .heap)) (order Y s)) =
-      packed-grows (cells Y (s .heap)) (orderAt Y s q) (order Y s) (order-later Y s q (halfWords (s .heap)) (omega arith)) in
+      packed-grows (cells Y (s .heap)) (orderAt Y s q) (order Y s)
+      (order-later Y s q (halfWords (s .heap)) (omega arith)) in
       ⊎-elim
       (λ (z : q ≡ 0 + p). omega arith)
       (λ (z : length (packed (cells Y (s .heap)) (orderAt Y s q)) ≤ q).

@@ -191,7 +191,8 @@ module _ (Y : Layout) (s : State) (v : SoundTests Y s) (o : List ℕ) (p : ℕ) 
   new-word : (d : ℕ) → d < size Y H k → at h′ (f + d) ≡ oldWord (getD (P o′) (length (P o) + d) (still 0))
   new-word d l =
       let r : length (P o) + size Y H k ≤ S = space in
-      moved-copy Y h k f d runs-apart copy-within (λ q. not-new (length (P o) + d) (omega arith) (omega arith)) (omega (arith, same-size))
+      moved-copy Y h k f d runs-apart copy-within (λ q. not-new (length (P o) + d) (omega arith) (omega arith))
+      (omega (arith, same-size))
       ∙ held d l
       ∙ sym (cell-word Y H k d (header-within Y s v k hk) l)
       ∙ ap oldWord (sym (cell-new d))

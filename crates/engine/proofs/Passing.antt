@@ -55,7 +55,9 @@ module _ (Y : Layout) (K : Marks Y) (s : State) (v : SoundTests Y s) (o : List �
   p-in = omega (arith, I .stands, I .free)
 
   word-at : at h (c .at) ≡ oldWord here
-  word-at = ap (at h) (I .stands) ∙ I .mid .todo p (omega arith) (omega (arith, p-in, distinct-fits Y s v o (I .mid .heads) (I .mid .once)))
+  word-at =
+      ap (at h) (I .stands)
+      ∙ I .mid .todo p (omega arith) (omega (arith, p-in, distinct-fits Y s v o (I .mid .heads) (I .mid .once)))
 
   abbrev Next : List ℕ → Type 0
   Next x = Scans Y s x (suc p) (passed Y h c .heap) (passed Y h c .scan)
@@ -186,6 +188,7 @@ module _ (Y : Layout) (K : Marks Y) (s : State) (v : SoundTests Y s) (o : List �
   turn =
       ⊎-elim
       (λ (zv : c .values ≡ 0).
-      ⊎-elim (λ (zr : c .raws ≡ 0). at-header zv zr (I .rest) refl) (λ (n : c .raws ≡ 0 → ⊥). at-raw zv n) (same? (c .raws) 0))
+      ⊎-elim (λ (zr : c .raws ≡ 0). at-header zv zr (I .rest) refl)
+      (λ (n : c .raws ≡ 0 → ⊥). at-raw zv n) (same? (c .raws) 0))
       (λ (n : c .values ≡ 0 → ⊥). at-value n)
       (same? (c .values) 0)

@@ -36,7 +36,8 @@ pub record Renames (Y : Layout) (s : State) (o : List ℕ) (p : ℕ) (h : List �
   pub free : renamed Y h w f .free ≡ otherFirst s + length (packed (cells Y (s .heap)) o)
   pub mid : Midway Y s o p (renamed Y h w f .heap)
 
-module _ (Y : Layout) (K : Marks Y) (s : State) (v : SoundTests Y s) (o : List ℕ) (p : ℕ) (h : List ℕ) (M : Midway Y s o p h) (w : ℕ) where
+module _ (Y : Layout) (K : Marks Y) (s : State) (v : SoundTests Y s) (o : List ℕ) (p : ℕ) (h : List ℕ)
+    (M : Midway Y s o p h) (w : ℕ) where
   abbrev H : List ℕ
   H = s .heap
 

@@ -69,7 +69,8 @@ module _ (Y : Layout) (K : Marks Y) (s : State) (v : SoundTests Y s) where
   }
 
   roots-all : (rs o h : List ℕ) → Midway Y s o 0 h → ((r : ℕ) → r < length rs → isValue Y (headers Y s) (at rs r) ≡ true)
-      → SafeRoots Y h rs (t + length (P o)) × Rooted Y s (visits o (map (wordLeads Y) rs)) rs (rooted Y h rs (t + length (P o)))
+      → SafeRoots Y h rs (t + length (P o))
+      × Rooted Y s (visits o (map (wordLeads Y) rs)) rs (rooted Y h rs (t + length (P o)))
   unfolding SafeRoots rooted visits
   roots-all [] o h M g = (tt, record { mid = M; free = refl; roots = refl })
   roots-all (w ∷ rs) o h M g =

@@ -54,7 +54,9 @@ module _ (Y : Layout) where
           turn-run Y h here before (e - i) (e - (i + 1)) some-left (after h′ (scan (i + 1) (e - (i + 1)) 0 f′)) step-is
 
       pub field-safe : SafeRun Y (e - (i + 1)) h′ (scan (i + 1) (e - (i + 1)) 0 f′)
-      field-safe = turn-safe Y h here before (e - i) (e - (i + 1)) some-left (after h′ (scan (i + 1) (e - (i + 1)) 0 f′)) step-is safe
+      field-safe =
+          turn-safe Y h here before (e - i) (e - (i + 1)) some-left
+          (after h′ (scan (i + 1) (e - (i + 1)) 0 f′)) step-is safe
 
   -- no field left
   pub fields-done : (h : List ℕ) (i e f : ℕ) → i ≡ e → run Y (e - i) h (scan i (e - i) 0 f) ≡ after h (between e f)

@@ -78,7 +78,8 @@ not-then : (a b : Bool) → cond a false b ≡ true → (a ≡ false) × (b ≡ 
 not-then true b h = never h refl
 not-then false b h = (refl, h)
 
-module _ (Y : Layout) (k : Kind) (n r : ℕ) (s : State) (e : atOnce (length (s .heap)) (length (s .roots)) (s .«record») n r ≡ true) where
+module _ (Y : Layout) (k : Kind) (n r : ℕ) (s : State)
+    (e : atOnce (length (s .heap)) (length (s .roots)) (s .«record») n r ≡ true) where
   pub at-once-shaped : badShape s ≡ false
   at-once-shaped = not-then (badShape s) _ e .0
 

@@ -15,7 +15,9 @@ numbers-of-requires : tie.Need-numbers-of-requires
 numbers-of-requires c κs = search needs
 
 returns-2 : tie.Need-returns-2
-returns-2 c = rw (le-ltb 1 (c .before .before .before .args .came .half) (omega (arith, c .before .if1 .left))) (c .numbers-of .ensures)
+returns-2 c =
+    rw (le-ltb 1 (c .before .before .before .args .came .half) (omega (arith, c .before .if1 .left)))
+    (c .numbers-of .ensures)
 
 pub record-after-spec : {M : Type 1} → statement M
 record-after-spec = tie.close (tie.spec returns numbers-of-requires returns-2)

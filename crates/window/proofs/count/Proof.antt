@@ -78,7 +78,9 @@ module _ {M : Type 1} (𝓤 : URA M) (H : Heap 𝓤) (A : Atoms 𝓤) (W : Given
   pv = EL.val P.the-type P′.the-laws (d .place)
 
   abbrev Post : Val → SProp 𝓤
-  Post = walkOf 𝓤 H A self.ended stayed (self.clauses 𝓤 H A mem run) .post (((κ, tt), (q, tt), tt, (d, tt), (mach ∷ [], tt)), tt)
+  Post =
+      walkOf 𝓤 H A self.ended stayed (self.clauses 𝓤 H A mem run) .post
+      (((κ, tt), (q, tt), tt, (d, tt), (mach ∷ [], tt)), tt)
 
   abbrev to : Callee 𝓤 H A mem run .Ghost
   to = ((tt, tt, tt, (d .place, tt), (pv ∷ [], tt)), tt)
@@ -105,7 +107,8 @@ module _ {M : Type 1} (𝓤 : URA M) (H : Heap 𝓤) (A : Atoms 𝓤) (W : Given
       (((κ, tt), (q, tt), tt, (d, tt), (mach ∷ [], tt)), tt) u r (tt, tt) (tt, tt)) $ says ! e $
       move ! (1 ∷ 2 ∷ 0 ∷ []) $ frame ! $ frame ! $ done !
 
-  module _ (C : Calls 𝓤 H) (Λ : Loops 𝓤 H) (fm : FmC 𝓤 H (W .laws) C) (known : Triple 𝓤 (C #callee) (Callee 𝓤 H A mem run)) where
+  module _ (C : Calls 𝓤 H) (Λ : Loops 𝓤 H) (fm : FmC 𝓤 H (W .laws) C)
+      (known : Triple 𝓤 (C #callee) (Callee 𝓤 H A mem run)) where
     walk : Is (B (κ, tt)) d (mach ∷ [])
         → ent 𝓤 (onEntry 𝓤 H A self.signature (κ, tt) (q, tt) (d, tt) (mach ∷ [], tt))
         (WpFn 𝓤 H C Λ code.function (mach ∷ []) Post)
@@ -118,20 +121,24 @@ module _ {M : Type 1} (𝓤 : URA M) (H : Heap 𝓤) (A : Atoms 𝓤) (W : Given
         (init ! 0 refl (EL.lawful P.the-type P′.the-laws 𝓤 H A W tt .typed (d .place) (pv ∷ []) isp .0)) $
         owned ! P.the-row (Is P.the-row) (EL.makes P.the-type P′.the-plain 𝓤 H A) (d .place) (pv ∷ []) isp $
         use1 W (raw (Callee 𝓤 H A mem run .pre to)) asked $
-        calls-at ! fm (Callee 𝓤 H A mem run) known to (and-then ! (load ! (from ! (stop !)) (look ! 1 refl)) (no-more !)) (λ u.
+        calls-at ! fm (Callee 𝓤 H A mem run) known to
+        (and-then ! (load ! (from ! (stop !)) (look ! 1 refl)) (no-more !)) (λ u.
         use1 W (later
         (some (λ (r : ℕ).
         (‵ ftrue ⊛ ‵ (u32 .own r (u ∷ []))) ⊛
         raw (ensured 𝓤 H A callee.ended (callee.clauses 𝓤 H A mem run) tt (d .place, tt) tt r)))) (id⊢ 𝓤 _) $
         await ! tt $ pick ! (λ r.
-        split ! $ move ! (1 ∷ []) $ use1 W (raw (fact 𝓤 (r ≡ found))) (said r) $ heard ! (r ≡ found) (λ e. split ! $ drop ! $
+        split ! $ move ! (1 ∷ []) $ use1 W (raw (fact 𝓤 (r ≡ found))) (said r) $
+        heard ! (r ≡ found) (λ e. split ! $ drop ! $
         peeks ! u32 (Is u32) (shows 𝓤 H A u32) r (u ∷ []) (λ is.
         -- [the result; _2(1); _1(3); room for _0(5); …; what came in]
         land ! (from ! (stop !)) (init ! 5 refl (uint-lawful 𝓤 H A W w32 .typed r _ is .0)) $
         returns ! (look ! 5 refl) $ forget ! 1 refl $ forget ! 3 refl $ forget ! 5 refl $
-        move ! (5 ∷ 6 ∷ []) $ free1 ! $ move ! (3 ∷ 4 ∷ []) $ free1 ! $ move ! (1 ∷ 2 ∷ []) $ free1 ! $ free0 ! $ by ! (exits r u e))))))))
+        move ! (5 ∷ 6 ∷ []) $ free1 ! $ move ! (3 ∷ 4 ∷ []) $ free1 ! $ move ! (1 ∷ 2 ∷ []) $ free1 ! $
+        free0 ! $ by ! (exits r u e))))))))
 
-module _ {M : Type 1} (𝓤 : URA M) (H : Heap 𝓤) (A : Atoms 𝓤) (W : Given 𝓤 H A) (mem : Memory → SProp 𝓤) (run : Routine → Fun 𝓤) where
+module _ {M : Type 1} (𝓤 : URA M) (H : Heap 𝓤) (A : Atoms 𝓤) (W : Given 𝓤 H A) (mem : Memory → SProp 𝓤)
+    (run : Routine → Fun 𝓤) where
   walks : (C : Calls 𝓤 H) (Λ : Loops 𝓤 H) → FmC 𝓤 H (W .laws) C → Triple 𝓤 (C #callee) (Callee 𝓤 H A mem run)
       → Walks 𝓤 H A self.ended stayed (WpFn 𝓤 H C Λ code.function) (self.clauses 𝓤 H A mem run)
   walks C Λ fm known =

@@ -125,8 +125,10 @@ module _ {M : Type 1} (𝓤 : URA M) (H : Heap 𝓤) (A : Atoms 𝓤) (W : Given
       (sep 𝓤 (Callee 𝓤 H A mem run .pre to) (sep 𝓤 (sem 𝓤 H A Own₀) (sem 𝓤 H A Own₁)))
   goes =
       qed W ((‵ (flft κ₀ q₀) ⊛ ‵ (flft κ₁ q₁) ⊛ ‵ ftrue) ∷ ‵ Owns ∷ []) ∵
-      move ! (1 ∷ []) $ fsplit ! $ use1 W (‵ Own₀ ⊛ ‵ Own₀) (shr-slice-copy 𝓤 H A W (named 0) κ₀ u32 .twice x₀ (s₀ ∷ [])) $ split ! $
-      move ! (2 ∷ []) $ fsplit ! $ use1 W (‵ Own₁ ⊛ ‵ Own₁) (shr-slice-copy 𝓤 H A W (named 1) κ₁ u32 .twice x₁ (s₁ ∷ [])) $ split ! $
+      move ! (1 ∷ []) $ fsplit ! $
+      use1 W (‵ Own₀ ⊛ ‵ Own₀) (shr-slice-copy 𝓤 H A W (named 0) κ₀ u32 .twice x₀ (s₀ ∷ [])) $ split ! $
+      move ! (2 ∷ []) $ fsplit ! $
+      use1 W (‵ Own₁ ⊛ ‵ Own₁) (shr-slice-copy 𝓤 H A W (named 1) κ₁ u32 .twice x₁ (s₁ ∷ [])) $ split ! $
       -- [the roots, twice; the record and the number; the heap, twice; tokens]
       move ! (0 ∷ 2 ∷ []) $ fjoin ! $ move ! (2 ∷ 0 ∷ []) $ fjoin ! $ move ! (3 ∷ 0 ∷ []) $
       use2 W (raw (Callee 𝓤 H A mem run .pre to)) asked $ frame ! $ move ! (1 ∷ []) $ frame ! $ done !
@@ -160,7 +162,8 @@ module _ {M : Type 1} (𝓤 : URA M) (H : Heap 𝓤) (A : Atoms 𝓤) (W : Given
       nothing ! $ owned ! P.the-row (Is P.the-row) (EL.makes P.the-type P′.the-plain 𝓤 H A) r (pv r ∷ []) is $ fjoin ! $
       move ! (1 ∷ 0 ∷ []) $ fjoin ! $ by ! (own-shut 𝓤 H A W (T.the-type α) (T′.the-laws α) (x₀, (r, tt)))
 
-  module _ (C : Calls 𝓤 H) (Λ : Loops 𝓤 H) (fm : FmC 𝓤 H (W .laws) C) (known : Triple 𝓤 (C #callee) (Callee 𝓤 H A mem run)) where
+  module _ (C : Calls 𝓤 H) (Λ : Loops 𝓤 H) (fm : FmC 𝓤 H (W .laws) C)
+      (known : Triple 𝓤 (C #callee) (Callee 𝓤 H A mem run)) where
     walk : Is (ShrSlice (named 0) κ₀ u32) x₀ (s₀ ∷ []) → Is (ShrSlice (named 1) κ₁ u32) x₁ (s₁ ∷ [])
         → ent 𝓤 (onEntry 𝓤 H A self.signature (κ₀, (κ₁, tt)) (q₀, (q₁, tt)) a vals)
         (WpFn 𝓤 H C Λ code.function (s₀ ∷ s₁ ∷ qv ∷ vint w64 object ∷ []) Post)
@@ -183,7 +186,8 @@ module _ {M : Type 1} (𝓤 : URA M) (H : Heap 𝓤) (A : Atoms 𝓤) (W : Given
         ((‵ (flft κ₀ q₀) ⊛ ‵ (flft κ₁ q₁) ⊛ ‵ ftrue) ⊛ ‵ (P.the-row .own r (u ∷ []))) ⊛
         raw (ensured 𝓤 H A callee.ended (callee.clauses 𝓤 H A mem run) (κ₀, (κ₁, tt)) a tt r)))) (id⊢ 𝓤 _) $
         await ! tt $ pick ! (λ r.
-        split ! $ move ! (1 ∷ []) $ use1 W (raw (fact 𝓤 (r ≡ found))) (said r) $ heard ! (r ≡ found) (λ e. split ! $ move ! (1 ∷ []) $
+        split ! $ move ! (1 ∷ []) $ use1 W (raw (fact 𝓤 (r ≡ found))) (said r) $
+        heard ! (r ≡ found) (λ e. split ! $ move ! (1 ∷ []) $
         peeks ! P.the-row (Is P.the-row) (shows 𝓤 H A P.the-row) r (u ∷ []) (λ is.
         -- [the place; tokens; the heap and the roots; _5(3); _4(5); _3(7); _2(9); _1(11); room for _0(13)]
         let e′ = EL.tells P.the-type P′.the-laws r (u ∷ []) is in
@@ -201,7 +205,8 @@ module _ {M : Type 1} (𝓤 : URA M) (H : Heap 𝓤) (A : Atoms 𝓤) (W : Given
         move ! (7 ∷ 8 ∷ []) $ free1 ! $ move ! (5 ∷ 6 ∷ []) $ free1 ! $ move ! (3 ∷ 4 ∷ []) $ free1 ! $ free0 ! $
         drop ! $ move ! (1 ∷ []) $ split ! $ move ! (2 ∷ []) $ by ! (exits r is′ e)))))))))))
 
-module _ {M : Type 1} (𝓤 : URA M) (H : Heap 𝓤) (A : Atoms 𝓤) (W : Given 𝓤 H A) (mem : Memory → SProp 𝓤) (run : Routine → Fun 𝓤) where
+module _ {M : Type 1} (𝓤 : URA M) (H : Heap 𝓤) (A : Atoms 𝓤) (W : Given 𝓤 H A) (mem : Memory → SProp 𝓤)
+    (run : Routine → Fun 𝓤) where
   walks : (C : Calls 𝓤 H) (Λ : Loops 𝓤 H) → FmC 𝓤 H (W .laws) C → Triple 𝓤 (C #callee) (Callee 𝓤 H A mem run)
       → Walks 𝓤 H A self.ended stayed (WpFn 𝓤 H C Λ code.function) (self.clauses 𝓤 H A mem run)
   walks C Λ fm known =
