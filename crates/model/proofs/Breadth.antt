@@ -74,7 +74,8 @@ pub data Near {C : Type 0} (cells : ℕ → List C) (blank : C) (leads : C → O
   near-cell : (k d : ℕ) {i j : ℕ} → Near cells blank leads R d i → leads (getD (cells i) k blank) ≡ some j
       → Near cells blank leads R (suc d) j
 
-module _ {C : Type 0} (cells : ℕ → List C) (blank : C) (leads : C → Option ℕ) (R : List (Option ℕ)) (quiet : leads blank ≡ none) where
+module _ {C : Type 0} (cells : ℕ → List C) (blank : C) (leads : C → Option ℕ) (R : List (Option ℕ))
+    (quiet : leads blank ≡ none) where
   abbrev F : ℕ → List ℕ
   F p = found cells blank leads R p
 
@@ -100,7 +101,8 @@ module _ {C : Type 0} (cells : ℕ → List C) (blank : C) (leads : C → Option
 
     -- what the cell c of a node i leads to is found once that cell is passed
     takes : (i c j : ℕ) → In i (F q) → leads (getD (cells i) c blank) ≡ some j
-        → (c < length (cells i)) × (suc (wordsBefore cells (F q) i + c) ≤ q) × In j (F (suc (wordsBefore cells (F q) i + c)))
+        → (c < length (cells i)) × (suc (wordsBefore cells (F q) i + c) ≤ q)
+        × In j (F (suc (wordsBefore cells (F q) i + c)))
     takes i c j h e =
         let short = lead-short cells blank leads R quiet (cells i) c j e in
         let m = wordsBefore cells (F q) i + c in
@@ -108,7 +110,8 @@ module _ {C : Type 0} (cells : ℕ → List C) (blank : C) (leads : C → Option
         let under : suc m ≤ q = omega arith in
         let passed = found-passed cells blank leads R quiet m q (omega arith) (omega arith) in
         let same : getD (packed cells (F m)) m blank ≡ getD (cells i) c blank =
-        sym (packed-starts cells blank (F m) (F q) m (later m (omega arith)) passed) ∙ packed-at cells blank (F q) i c h short in
+        sym (packed-starts cells blank (F m) (F q) m (later m (omega arith)) passed)
+        ∙ packed-at cells blank (F q) i c h short in
         (short, under, found-takes cells blank leads R m j (ap leads same ∙ e))
 
     -- what a cell passed no later leads to is no farther
@@ -123,7 +126,8 @@ module _ {C : Type 0} (cells : ℕ → List C) (blank : C) (leads : C → Option
         let y = f .0 in
         let c′ = f .1 in
         let at : getD (packed cells (F m′)) m′ blank ≡ getD (cells (f .0)) (f .1) blank =
-        ap (λ z. getD (packed cells (F m′)) z blank) (sym (f .4)) ∙ packed-at cells blank (F m′) (f .0) (f .1) (f .2) (f .3) in
+        ap (λ z. getD (packed cells (F m′)) z blank) (sym (f .4))
+        ∙ packed-at cells blank (F m′) (f .0) (f .1) (f .2) (f .3) in
         let s : Starts (F m′) (F q) = later m′ (omega arith) in
         let b = position (f .0) (F q) (starts-in (f .0) (F m′) (F q) s (f .2)) in
         let w : wordsBefore cells (F q) (f .0) ≡ wordsBefore cells (F m′) (f .0) =

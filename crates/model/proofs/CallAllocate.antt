@@ -57,7 +57,8 @@ allocation Y k n r s h l u =
     rw (lt-leb (n + 1) (spare s) f, sound-whole Y s h)
     (⊎-elim
     (λ (e : spare (collected Y s) < n + 1).
-    rw (lt-leb (n + 1) (spare (collected Y s)) e) (never-fits (omega (arith, spare-after Y s h, live-is Y s h, order-fits Y s h))))
+    rw (lt-leb (n + 1) (spare (collected Y s)) e)
+    (never-fits (omega (arith, spare-after Y s h, live-is Y s h, order-fits Y s h))))
     (λ (e : n + 1 ≤ spare (collected Y s)).
     rw (le-leb (n + 1) (spare (collected Y s)) e) (later (omega (arith, spare-after Y s h))))
     (decide (spare (collected Y s)) (n + 1))))

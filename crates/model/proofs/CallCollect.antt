@@ -101,7 +101,8 @@ module _ (Y : Layout) (s : State) (g : Graph) (m : Represents Y s g) where
       × Inside (m .kept) (m .headerOf) (m .apart) (graphOrder g p)
   unfolding orderAt graphOrder
   order-along p =
-      found-along (m .kept) (m .headerOf) (m .apart) (graphCells g) none itself (cells Y (s .heap)) (still 0) (cellLeads Y) refl refl
+      found-along (m .kept) (m .headerOf) (m .apart) (graphCells g) none itself (cells Y (s .heap)) (still 0)
+      (cellLeads Y) refl refl
       (λ x i. object-size (nth g x) (m .headerOf x) (within x i) (m .holds x i))
       (λ x k i l. object-alike (nth g x) (m .headerOf x) k (within x i) (m .holds x i) l)
       (map valueLeads (g .roots)) (map (wordLeads Y) (s .roots)) roots-count roots-along p
@@ -126,7 +127,8 @@ module _ (Y : Layout) (s : State) (g : Graph) (m : Represents Y s g) where
   orders-same : graphOrder g (halfWords (s .heap)) ≡ graphOrder g (totalWords (g .objects))
   unfolding graphOrder
   orders-same =
-      found-settled (graphCells g) none itself (map valueLeads (g .roots)) refl (halfWords (s .heap)) (totalWords (g .objects))
+      found-settled (graphCells g) none itself (map valueLeads (g .roots)) refl (halfWords (s .heap))
+      (totalWords (g .objects))
       (omega (arith, words-along (halfWords (s .heap)), order-fits Y s (parts m)))
       (graph-fits (totalWords (g .objects)))
 
@@ -178,7 +180,8 @@ module _ (Y : Layout) (s : State) (g : Graph) (m : Represents Y s g) where
         ap (λ z. Y .countOf z) e ∙ h .1,
         λ f l.
             let u : f < fieldCount Y (s .heap) i = let y = h .1 in omega arith in
-            became (getD vs f (plain null)) (at (s .heap) (i + 1 + f)) (at (collected Y s .heap) (D.copyIndex Y s i + 1 + f))
+            became (getD vs f (plain null)) (at (s .heap) (i + 1 + f))
+            (at (collected Y s .heap) (D.copyIndex Y s i + 1 + f))
             (h .2 f l) (c .valueField i f r (h .0) u)
             (λ p. D.fromField i f r (h .0) u p),
       )

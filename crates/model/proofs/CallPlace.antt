@@ -29,7 +29,8 @@ use Rattle.model.proofs.Represents.{parts}
 use Rattle.model.proofs.Tests.{same?}
 
 module _ (Y : Layout) (law : WritesBoth Y) where
-  module _ (s : State) (g : Graph) (m : Represents Y s g) (k : Kind) (n r : ℕ) (small : n ≤ maxFields) (fit : n + 1 ≤ spare s) where
+  module _ (s : State) (g : Graph) (m : Represents Y s g) (k : Kind) (n r : ℕ) (small : n ≤ maxFields)
+      (fit : n + 1 ≤ spare s) where
     abbrev N : ℕ
     N = length (g .objects)
 

@@ -125,7 +125,8 @@ module _ (Y : Layout) where
   unfolding step Calls.load graphStep
   load-agrees r f q s g m =
       roots-agree Y (r ∷ q ∷ []) s g _ _ m (λ a.
-      traced-field s g m (rootValue g r) (rootWord s r) f _ (λ i vs. says Says.Done (graphWithRoot g q (getD vs f (plain null))))
+      traced-field s g m (rootValue g r) (rootWord s r) f _
+      (λ i vs. says Says.Done (graphWithRoot g q (getD vs f (plain null))))
       (m .roots r (has-root Y s g m r (or-none (noRoot s r) (noRoot s q) a .0)))
       (λ x vs i e o l. (
         refl,
@@ -208,7 +209,8 @@ module _ (Y : Layout) where
       word-represents s g m x f w (traced (set vs f v)) i u (λ k. rep-value Y s g m v w e) (
         ap (λ z. Y .kindOf z) c ∙ h .0,
         ap (λ z. Y .countOf z) c ∙ h .1 ∙ sym (length-set vs f v),
-        set-alike (Encodes Y (m .kept) (m .headerOf)) vs (plain null) v (s .heap) (m .headerOf x) f w l (field-in s g m x f i u) (h .2) e,
+        set-alike (Encodes Y (m .kept) (m .headerOf)) vs (plain null) v (s .heap) (m .headerOf x) f w l
+            (field-in s g m x f i u) (h .2) e,
       )
 
   pub store-agrees : (r f q : ℕ) (s : State) (g : Graph) → Represents Y s g
@@ -253,6 +255,7 @@ module _ (Y : Layout) where
   unfolding step Calls.rawWrite graphStep
   rawWrite-agrees r f n s g m =
       roots-agree Y (r ∷ []) s g _ _ m (λ a.
-      untraced-field s g m (rootValue g r) (rootWord s r) f _ (λ i ws. says Says.Done (withObject g i (untraced (set ws f n))))
+      untraced-field s g m (rootValue g r) (rootWord s r) f _
+      (λ i ws. says Says.Done (withObject g i (untraced (set ws f n))))
       (m .roots r (has-root Y s g m r a))
       (λ x ws i e o l. (refl, rw (e, index-address Y (m .headerOf x)) (raw-represents s g m x f n ws i o l))))

@@ -136,7 +136,8 @@ module _ (Y : Layout) where
   same-word s g m (plain a) (object y) w w′ e e′ =
       rw (e .1, e′ .1) (ne-eqb (plainWord a) (address Y (m .headerOf y)) (plain-apart s g m a y (e .0) (e′ .0)))
   same-word s g m (object x) (plain b) w w′ e e′ =
-      rw (e .1, e′ .1) (ne-eqb (address Y (m .headerOf x)) (plainWord b) (λ z. plain-apart s g m b x (e′ .0) (e .0) (sym z)))
+      rw (e .1, e′ .1)
+      (ne-eqb (address Y (m .headerOf x)) (plainWord b) (λ z. plain-apart s g m b x (e′ .0) (e .0) (sym z)))
   same-word s g m (object x) (object y) w w′ e e′ =
       rw (e .1, e′ .1)
       (eqb-both (address Y (m .headerOf x)) (address Y (m .headerOf y)) x y

@@ -58,7 +58,8 @@ module _ (Y : Layout) (s : State) where
 
   pub legal : (r : ℕ) (named : List ℕ) → List·Memᴰ r named → (Row.NoRoot s named → ⊥) → r < length (s .roots)
   legal r named m n =
-      ⊎-elim (λ (l : r < length (s .roots)). l) (λ (l : length (s .roots) ≤ r). absurd (n (r, m, l))) (decide r (length (s .roots)))
+      ⊎-elim (λ (l : r < length (s .roots)). l) (λ (l : length (s .roots) ≤ r). absurd (n (r, m, l)))
+      (decide r (length (s .roots)))
 
   good-shape : (C.BadShape s → ⊥) → Shaped s
   good-shape a = shaped s (fails-test (shape-decides s) a)
@@ -82,7 +83,8 @@ module _ (Y : Layout) (s : State) where
         let n : C.Names Y s (rootWord s r) = names-decides Y s (rootWord s r) .holds is-named in
         let b = first-in s h in
         let q : f < fieldCount Y (s .heap) (index Y (rootWord s r)) =
-        leb-false (fieldCount Y (s .heap) (index Y (rootWord s r))) f (fails-test (field-decides Y s r is-named f) (p .1 .1 .0)) in
+        leb-false (fieldCount Y (s .heap) (index Y (rootWord s r))) f
+        (fails-test (field-decides Y s r is-named f) (p .1 .1 .0)) in
         omega (arith, n .ends, h .high)
 
   -- ---- set, copy, load: one root
@@ -105,7 +107,8 @@ module _ (Y : Layout) (s : State) where
       → E.Done (step Y (Ask.Copy from to) s) (E.RootChanged s to (rootWord s from))
   unfolding step Calls.copy
   copies from to p =
-      done-with (E.RootChanged s to (rootWord s from)) (withRoot s to (rootWord s from)) (past-roots (from ∷ to ∷ []) _ (p .0) (p .1 .0))
+      done-with (E.RootChanged s to (rootWord s from)) (withRoot s to (rootWord s from))
+      (past-roots (from ∷ to ∷ []) _ (p .0) (p .1 .0))
       (root-changed s to (rootWord s from) (legal to (from ∷ to ∷ []) (List·Memᴰ·tail (List·Memᴰ·head refl)) (p .1 .0)))
 
   pub loads : (r f to : ℕ) → E.Passes Y (Ask.Load r f to) s
@@ -194,7 +197,8 @@ module _ (Y : Layout) (s : State) where
 
     fits-then : n + 1 ≤ spare (collected Y s)
     fits-then =
-        ⊎-elim (λ (l : spare (collected Y s) < n + 1). absurd (p .1 .1 .1 .1 .0 (c, l))) (λ (l : n + 1 ≤ spare (collected Y s)). l)
+        ⊎-elim (λ (l : spare (collected Y s) < n + 1). absurd (p .1 .1 .1 .1 .0 (c, l)))
+        (λ (l : n + 1 ≤ spare (collected Y s)). l)
         (decide (spare (collected Y s)) (n + 1))
 
     allocate-then : step Y (Ask.Allocate k n r) s ≡ says Says.Done (placed Y k n r (collected Y s))

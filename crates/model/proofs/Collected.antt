@@ -88,7 +88,8 @@ module _ (Y : Layout) (s : State) (h : SoundTests Y s) where
   pub new-rest : (m : ℕ) → length cs ≤ m → m < S → at (s′ .heap) (otherFirst s + m) ≡ 0
   unfolding copied
   new-rest m l k =
-      build-new (other (s .«record» .half)) S m (filled S ws) (replicate S 0) (filled-length S ws ws-fits) (length-replicate S 0) k
+      build-new (other (s .«record» .half)) S m (filled S ws) (replicate S 0) (filled-length S ws ws-fits)
+      (length-replicate S 0) k
       ∙ filled-out S m ws (omega (arith, ws-length)) k
 
   pub new-old : (m : ℕ) → m < S → at (s′ .heap) (firstWord s + m) ≡ 0

@@ -91,7 +91,8 @@ module _ (Y : Layout) where
   window-settled r s =
       place-after (badShape s) Why.Shape _ _ _ (shape-decides s) (λ a.
       place-after (noRoots (length (s .roots)) (r ∷ [])) Why.Root _ _ _ (roots-decide s (r ∷ [])) (λ b.
-      place-after (not (names Y s (rootWord s r))) Why.Object _ _ _ (object-decides Y s r) (λ c. passed tt (object-place _ _))))
+      place-after (not (names Y s (rootWord s r))) Why.Object _ _ _ (object-decides Y s r)
+      (λ c. passed tt (object-place _ _))))
 
   one-place : (p : Place) (j k : Refusal) → p ≡ Place.Refused j → p ≡ Place.Refused k → j ≡ k
   one-place p j k a b = cc

@@ -45,12 +45,15 @@ module _ (Y : Layout) (s : State) (h : SoundTests Y s) where
 
   order-met : D.FirstMeetings Y s (order Y s)
   unfolding orderAt
-  order-met = met (cells Y (s .heap)) (still 0) (cellLeads Y) (map (wordLeads Y) (s .roots)) refl (halfWords (s .heap)) (order-fits Y s h)
+  order-met =
+      met (cells Y (s .heap)) (still 0) (cellLeads Y) (map (wordLeads Y) (s .roots)) refl
+      (halfWords (s .heap)) (order-fits Y s h)
 
   order-only : (o : List ℕ) → D.FirstMeetings Y s o → ((i : ℕ) → List·Memᴰ i o → D.Reach Y s i) → o ≡ order Y s
   unfolding orderAt
   order-only o e r =
-      only (cells Y (s .heap)) (still 0) (cellLeads Y) (map (wordLeads Y) (s .roots)) refl (halfWords (s .heap)) (order-fits Y s h) o e
+      only (cells Y (s .heap)) (still 0) (cellLeads Y) (map (wordLeads Y) (s .roots)) refl (halfWords (s .heap))
+      (order-fits Y s h) o e
       (λ i m. reach-reached Y s h i (r i (in-mem i o m)))
 
   pub collects : D.Collects Y s s′ (live Y s)
@@ -75,7 +78,8 @@ module _ (Y : Layout) (s : State) (h : SoundTests Y s) where
     rootCount = new-roots Y s h;
     root = λ r l. rw (new-root Y s h r l) (becomes Y s h (at (s .roots) r));
     shared = λ i j a b e.
-        wordsBefore-apart (cells Y (s .heap)) (λ x. omega arith) (order Y s) i j (reach-order Y s h i a) (reach-order Y s h j b)
+        wordsBefore-apart (cells Y (s .heap)) (λ x. omega arith) (order Y s) i j (reach-order Y s h i a)
+        (reach-order Y s h j b)
         (omega arith);
     sameLength = new-length Y s h;
     otherHalf = new-half Y s h;

@@ -114,7 +114,8 @@ module _ {C : Type 0} (cells : ℕ → List C) (blank : C) (leads : C → Option
       let under : suc m ≤ q = omega arith in
       let passed : m < length (packed cells (F m)) = found-passed quiet m q (omega arith) (omega arith) in
       let same : getD (packed cells (F m)) m blank ≡ getD (cells i) k blank =
-      sym (packed-starts cells blank (F m) (F q) m (found-later m q (omega arith)) passed) ∙ packed-at cells blank (F q) i k h short in
+      sym (packed-starts cells blank (F m) (F q) m (found-later m q (omega arith)) passed)
+      ∙ packed-at cells blank (F q) i k h short in
       starts-in j (F (suc m)) (F q) (found-later (suc m) q under) (found-takes m j (ap leads same ∙ e))
 
   -- so every reachable node is found

@@ -63,7 +63,8 @@ module _ (ids : List ℕ) (pl : ℕ → ℕ) (apart : (x y : ℕ) → In x ids �
       let ih = visits-along (visit o l) ls ls′ (omega arith) (λ k a. f (suc k) (omega arith)) (v .1) in
       (ap (λ z. visits z ls′) (v .0) ∙ ih .0, ih .1)
 
-  module _ {C D : Type 0} (cells : ℕ → List C) (blank : C) (leads : C → Option ℕ) (cells′ : ℕ → List D) (blank′ : D) (leads′ : D → Option ℕ)
+  module _ {C D : Type 0} (cells : ℕ → List C) (blank : C) (leads : C → Option ℕ) (cells′ : ℕ → List D) (blank′ : D)
+      (leads′ : D → Option ℕ)
       (quiet : leads blank ≡ none) (quiet′ : leads′ blank′ ≡ none)
       (sizes : (x : ℕ) → In x ids → length (cells′ (pl x)) ≡ length (cells x))
       (alike : (x k : ℕ) → In x ids → k < length (cells x)

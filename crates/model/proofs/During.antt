@@ -81,7 +81,8 @@ module _ (Y : Layout) (s : State) (h : SoundTests Y s) (p : ℕ) where
     pub ended : orderAt Y s p ≡ order Y s
     unfolding orderAt
     ended =
-        found-settled (cells Y (s .heap)) (still 0) (cellLeads Y) (map (wordLeads Y) (s .roots)) refl p (halfWords (s .heap)) over
+        found-settled (cells Y (s .heap)) (still 0) (cellLeads Y) (map (wordLeads Y) (s .roots)) refl p
+        (halfWords (s .heap)) over
         (omega (arith, order-fits Y s h))
 
     same-words : L ≡ length (packed (cells Y (s .heap)) (order Y s))

@@ -85,7 +85,8 @@ grown-closed g k m r c =
           (λ (l : length (g .objects) ≤ i).
           ⊎-elim
           (λ (q : i ≡ length (g .objects)).
-          rw (q, getD-append-seam (g .objects) (blankObject k m) [] (traced [])) (blank-under (length (g .objects) + 1) m k))
+          rw (q, getD-append-seam (g .objects) (blankObject k m) [] (traced []))
+          (blank-under (length (g .objects) + 1) m k))
           (λ (q : i ≡ length (g .objects) → ⊥).
           rw (List·getD-eq-default (g .objects ++ (blankObject k m ∷ [])) (traced []) {n = i} (omega arith)) (λ f. tt))
           (same? i (length (g .objects))))

@@ -69,7 +69,8 @@ module _ (g : Graph) where
     found-listed : (i : ℕ) → In i whole → D3.Reachable g i
     unfolding graphOrder
     found-listed i m =
-        reached-reach i (found-reach (graphCells g) none itself (map valueLeads (g .roots)) refl (totalWords (g .objects)) i m)
+        reached-reach i
+        (found-reach (graphCells g) none itself (map valueLeads (g .roots)) refl (totalWords (g .objects)) i m)
 
     whole-distinct : Distinct whole
     unfolding graphOrder

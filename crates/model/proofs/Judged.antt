@@ -78,7 +78,8 @@ module _ (Y : Layout) (s : State) where
       → Judged Y s (Row.admittedRows named s qs) (onRoots named s o)
   judged-roots named qs o t =
       judged-refuse (badShape s) Why.Shape (BadShape s) _ _ refl (shape-decides s) (λ e.
-      judged-refuse (noRoots (length (s .roots)) named) Why.Root (Row.NoRoot s named) qs o refl (roots-decide s named) (λ f. t))
+      judged-refuse (noRoots (length (s .roots)) named) Why.Root (Row.NoRoot s named) qs o refl
+      (roots-decide s named) (λ f. t))
 
   -- OBJECT, KIND, FIELD
   judged-field : (k : Kind) (r f : ℕ) (o : Outcome State) → Plainly (o .answer)
@@ -121,10 +122,12 @@ module _ (Y : Layout) (s : State) where
   step-judged (Ask.RawRead r f) = judged-roots (r ∷ []) _ _ (judged-field Untraced r f _ (plainly (Says.Number _) refl))
   step-judged (Ask.RawWrite r f n) = judged-roots (r ∷ []) _ _ (judged-field Untraced r f _ done-plainly)
   step-judged (Ask.Same p q) =
-      judged-roots (p ∷ q ∷ []) _ _ (judged-says _ s (either-plainly (eqb (rootWord s p) (rootWord s q)) Says.Yes Says.No refl refl))
+      judged-roots (p ∷ q ∷ []) _ _
+      (judged-says _ s (either-plainly (eqb (rootWord s p) (rootWord s q)) Says.Yes Says.No refl refl))
   step-judged (Ask.Inspect r) =
       judged-roots (r ∷ []) _ _
       (cond-holds (Judged Y s _) (isOdd (rootWord s r)) _ _ (λ a. by-none (odd-no-value r a, tt) (plainly (Says.Integer _) refl)) (λ a.
-      cond-holds (Judged Y s _) (isNull (rootWord s r)) _ _ (λ b. by-none (null-no-value r b, tt) (plainly Says.Null refl)) (λ b.
+      cond-holds (Judged Y s _) (isNull (rootWord s r)) _ _
+      (λ b. by-none (null-no-value r b, tt) (plainly Says.Null refl)) (λ b.
       judged-refuse _ Why.Object _ _ _ refl (value-decides Y s r (other-address (rootWord s r) a b))
       (λ d. judged-says _ _ (object-plainly _ _)))))

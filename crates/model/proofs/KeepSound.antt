@@ -29,7 +29,8 @@ module _ (Y : Layout) (s : State) (h : SoundTests Y s) where
   pub is-header : (k : Kind) (r f : ℕ) → HasField Y s k r f → In (index Y (rootWord s r)) (headers Y s)
   is-header k r f g =
       let n = names-decides Y s (rootWord s r) .holds (g .named) in
-      value-header Y (headers Y s) (rootWord s r) (h .roots r (g .root)) (parts-address (rootWord s r) (n .even) (n .notNull))
+      value-header Y (headers Y s) (rootWord s r) (h .roots r (g .root))
+      (parts-address (rootWord s r) (n .even) (n .notNull))
 
   pub stays-sound : WritesBoth Y → (c : Call) → SoundTests Y (step Y c s .left)
   stays-sound law = step-left Y s (SoundTests Y) (record {

@@ -110,7 +110,8 @@ module _ (Y : Layout) (s : State) (P : State → Type 0) (h : Kept Y s P) where
       on-roots (r ∷ []) _ (λ a b. after _ Why.Range _ (λ c. leaves (h .integer r v (not-false (inRange v) c))))
   step-leaves (Ask.SetNull r) = on-roots (r ∷ []) _ (λ a b. leaves (h .null r))
   step-leaves (Ask.Copy from to) =
-      on-roots (from ∷ to ∷ []) _ (λ a b. leaves (h .copied from to (legal-root from (or-none (noRoot s from) (noRoot s to) b .0))))
+      on-roots (from ∷ to ∷ []) _
+      (λ a b. leaves (h .copied from to (legal-root from (or-none (noRoot s from) (noRoot s to) b .0))))
   step-leaves (Ask.Load r f to) =
       on-roots (r ∷ to ∷ []) _ (λ a b.
       on-field Traced r f _ (legal-root r (or-none (noRoot s r) (noRoot s to) b .0)) (λ g. leaves (h .loaded r f to g)))

@@ -161,7 +161,8 @@ module _ (Y : Layout) (s : State) (h : SoundTests Y s) where
   set-from R r w e f o q l =
       ⊎-elim
       (λ (z : q ≡ r).
-      subst (λ x. L.Origin Y s (at (set R r w) x)) (sym z) (subst (L.Origin Y s) (sym (getD-set-same R r w 0 (omega arith))) o))
+      subst (λ x. L.Origin Y s (at (set R r w) x)) (sym z)
+      (subst (L.Origin Y s) (sym (getD-set-same R r w 0 (omega arith))) o))
       (λ (n : q ≡ r → ⊥). subst (L.Origin Y s) (sym (getD-set-other R r q w 0 n)) (f q l))
       (same? q r)
 

@@ -38,7 +38,8 @@ pub no-more : (a t : List ℕ) → Distinct (a ++ t) → ((i : ℕ) → In i t �
 no-more a [] u h = refl
 no-more a (x ∷ t) u h = absurd (clash a x t u (h x (in-self x t)))
 
-module _ {C : Type 0} (cells : ℕ → List C) (blank : C) (leads : C → Option ℕ) (R : List (Option ℕ)) (quiet : leads blank ≡ none) where
+module _ {C : Type 0} (cells : ℕ → List C) (blank : C) (leads : C → Option ℕ) (R : List (Option ℕ))
+    (quiet : leads blank ≡ none) where
   abbrev F : ℕ → List ℕ
   F p = found cells blank leads R p
 

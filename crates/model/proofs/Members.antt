@@ -68,7 +68,8 @@ in-append-right i a b h = rw mem-append (or-right (mem i a) (mem i b) h)
 
 pub in-snoc : (i j : ℕ) (o : List ℕ) → In i (o ++ (j ∷ [])) → In i o ⊎ (i ≡ j)
 in-snoc i j o h =
-    ⊎-elim inl (λ e. inr (⊎-elim (λ q. q) (λ z. in-nil i z) (in-cons i j [] e))) (or-cases (mem i o) (mem i (j ∷ [])) (rw mem-append at h))
+    ⊎-elim inl (λ e. inr (⊎-elim (λ q. q) (λ z. in-nil i z) (in-cons i j [] e)))
+    (or-cases (mem i o) (mem i (j ∷ [])) (rw mem-append at h))
 
 pub in-last : (j : ℕ) (o : List ℕ) → In j (o ++ (j ∷ []))
 in-last j o = in-append-right j o (j ∷ []) (in-self j [])
@@ -97,7 +98,8 @@ pub in-take : (x k : ℕ) (xs : List ℕ) → In x (take k xs) → In x xs
 in-take x zero xs m = in-nil x m
 in-take x (suc k) [] m = m
 in-take x (suc k) (y ∷ xs) m =
-    ⊎-elim (λ (e : x ≡ y). in-head x y xs e) (λ (n : In x (take k xs)). in-tail x y xs (in-take x k xs n)) (in-cons x y (take k xs) m)
+    ⊎-elim (λ (e : x ≡ y). in-head x y xs e) (λ (n : In x (take k xs)). in-tail x y xs (in-take x k xs n))
+    (in-cons x y (take k xs) m)
 
 -- ---- all
 

@@ -89,7 +89,8 @@ module _ (Y : Layout) (s : State) (h : SoundTests Y s) where
   pub reached-order : (j : ℕ) → Reached j → In j (order Y s)
   unfolding orderAt
   reached-order j r =
-      reach-found (cells Y (s .heap)) (still 0) (cellLeads Y) (map (wordLeads Y) (s .roots)) refl (halfWords (s .heap)) order-fits j r
+      reach-found (cells Y (s .heap)) (still 0) (cellLeads Y) (map (wordLeads Y) (s .roots)) refl
+      (halfWords (s .heap)) order-fits j r
 
   pub order-header : (j : ℕ) → In j (order Y s) → In j (headers Y s)
   order-header j m = reached-header j (orderAt-reached (halfWords (s .heap)) j m)
@@ -127,7 +128,8 @@ module _ (Y : Layout) (s : State) (h : SoundTests Y s) where
   nearby-near d j (near-cell k d′ {i} n e) =
       let t = header-tile i (reached-header i (nearby-reached d′ i n)) in
       let c = cell-leads Y (s .heap) i k j (omega (arith, free-in)) e in
-      subst (D.Near Y s (suc d′)) (c .to) (D.byField i (c .field) d′ (nearby-near d′ i n) (c .traced) (c .under) (c .pointer))
+      subst (D.Near Y s (suc d′)) (c .to)
+      (D.byField i (c .field) d′ (nearby-near d′ i n) (c .traced) (c .under) (c .pointer))
 
   near-nearby : (d j : ℕ) → D.Near Y s d j → Nearby d j
   near-nearby d j (D.byRoot r d′ l p) =

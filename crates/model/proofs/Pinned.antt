@@ -161,7 +161,8 @@ module _ (Y : Layout) where
         let a = m .two s ok in
         let b = n .two s ok in
         let z = no-choice Y s _ _ (a .L) (b .L) (a .leaves) (b .leaves) in
-        same-outcome (M .step Ask.Collect s) (N .step Ask.Collect s) (a .answers ∙ ap Says.Live (z .1) ∙ sym (b .answers)) (z .0)
+        same-outcome (M .step Ask.Collect s) (N .step Ask.Collect s)
+        (a .answers ∙ ap Says.Live (z .1) ∙ sym (b .answers)) (z .0)
 
     passed-same : (c : Call) (s : State) → E.Passes Y c s → M .step c s ≡ N .step c s
     passed-same Ask.Collect s p = collect-same s p
@@ -171,15 +172,18 @@ module _ (Y : Layout) where
         ⊎-elim
         (λ (e : sound Y s ≡ true).
         let h = sound-decides Y s .holds e in
-        both-say _ _ s Says.Sound (x .checkSound s p .1 h) (y .checkSound s p .1 h) (x .checkLeaves s p) (y .checkLeaves s p))
+        both-say _ _ s Says.Sound (x .checkSound s p .1 h) (y .checkSound s p .1 h) (x .checkLeaves s p)
+        (y .checkLeaves s p))
         (λ (e : sound Y s ≡ false).
         let h = sound-decides Y s .fails e in
-        both-say _ _ s Says.Unsound (x .checkUnsound s p .1 h) (y .checkUnsound s p .1 h) (x .checkLeaves s p) (y .checkLeaves s p))
+        both-say _ _ s Says.Unsound (x .checkUnsound s p .1 h) (y .checkUnsound s p .1 h) (x .checkLeaves s p)
+        (y .checkLeaves s p))
         (by-test (sound Y s))
     passed-same (Ask.Allocate k f r) s p =
         ⊎-elim
         (λ (c : spare s < f + 1).
-        both-done _ _ (E.NewObject Y k f r (collected Y s)) (one-object k f r (collected Y s)) (m .effects .allocateThen k f r s p c)
+        both-done _ _ (E.NewObject Y k f r (collected Y s)) (one-object k f r (collected Y s))
+        (m .effects .allocateThen k f r s p c)
         (n .effects .allocateThen k f r s p c))
         (λ (c : f + 1 ≤ spare s).
         both-done _ _ (E.NewObject Y k f r s) (one-object k f r s) (m .effects .allocateNow k f r s p c)
@@ -205,9 +209,11 @@ module _ (Y : Layout) where
         let y = n .effects in
         ⊎-elim
         (λ (e : rootWord s r ≡ rootWord s q).
-        both-say _ _ s Says.Yes (x .sameYes r q s p .1 e) (y .sameYes r q s p .1 e) (x .sameLeaves r q s p) (y .sameLeaves r q s p))
+        both-say _ _ s Says.Yes (x .sameYes r q s p .1 e) (y .sameYes r q s p .1 e) (x .sameLeaves r q s p)
+        (y .sameLeaves r q s p))
         (λ (e : rootWord s r ≡ rootWord s q → ⊥).
-        both-say _ _ s Says.No (x .sameNo r q s p .1 e) (y .sameNo r q s p .1 e) (x .sameLeaves r q s p) (y .sameLeaves r q s p))
+        both-say _ _ s Says.No (x .sameNo r q s p .1 e) (y .sameNo r q s p .1 e) (x .sameLeaves r q s p)
+        (y .sameLeaves r q s p))
         (same? (rootWord s r) (rootWord s q))
     passed-same (Ask.Inspect r) s p = inspect-same r s p
 
@@ -225,7 +231,8 @@ module _ (Y : Layout) where
         let f : D1.First (Row.freshRows s) Why.Shape = inl (length-decides s .holds e, refl) in
         let a = m .one .fresh s .exactly Why.Shape .1 f in
         let b = n .one .fresh s .exactly Why.Shape .1 f in
-        same-outcome (M .fresh s) (N .fresh s) (a ∙ sym b) (m .one .freshKeeps s Why.Shape a ∙ sym (n .one .freshKeeps s Why.Shape b)))
+        same-outcome (M .fresh s) (N .fresh s) (a ∙ sym b)
+        (m .one .freshKeeps s Why.Shape a ∙ sym (n .one .freshKeeps s Why.Shape b)))
         (λ (e : badLength (length (s .heap)) ≡ false).
         let d = length-decides s .fails e in
         both-done _ _ (E.Cleared s) (cleared-once s) (m .effects .fresh s d) (n .effects .fresh s d))

@@ -58,7 +58,8 @@ module _ (Y : Layout) where
   tiles-snoc H H′ e e′ n zero i t f k q l = absurd (omega arith)
   tiles-snoc H H′ e e′ zero (suc n′) i t f k q l =
       let z : i ≡ e = eqb-true i e t in
-      subst (λ x. (tiles Y H′ e′ (suc n′) x ≡ true) × (headersFrom Y H′ e′ (suc n′) x ≡ e ∷ [])) (sym z) (one-more H′ e e′ n′ k q)
+      subst (λ x. (tiles Y H′ e′ (suc n′) x ≡ true) × (headersFrom Y H′ e′ (suc n′) x ≡ e ∷ [])) (sym z)
+      (one-more H′ e e′ n′ k q)
   tiles-snoc H H′ e e′ (suc n) (suc n′) i t f k q l =
       ⊎-elim
       (λ (b : ltb i e ≡ true).

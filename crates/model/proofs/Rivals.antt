@@ -214,7 +214,9 @@ constant-breaks-3 d =
     (d .freshAnswers (threeWords 0 1 (omega arith)) (threeWords 0 1 (omega arith)) refl (omega arith) (Ask.Inspect 0 ∷ []) 1 unrefused .1))
   where
     unrefused : List·Memᴰ D3.noRoom (Says.Done ∷ []) → ⊥
-    unrefused m = ⊎-elim (λ (e : D3.noRoom ≡ Says.Done). done-plainly Why.Room (sym e)) (λ x. List·Memᴰ·not-nil x) (List·Memᴰ·cases-cons m)
+    unrefused m =
+        ⊎-elim (λ (e : D3.noRoom ≡ Says.Done). done-plainly Why.Room (sym e)) (λ x. List·Memᴰ·not-nil x)
+        (List·Memᴰ·cases-cons m)
 
 -- collects once, from half A, and pretends later: in half B it says that all words used are live, and an
 -- allocation that does not fit is "no room"

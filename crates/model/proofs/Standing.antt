@@ -87,12 +87,14 @@ module _ (Y : Layout) where
     encodes w l (C.header i m e) =
         let n = mem-in i hs m in
         let p = place-at i hs n in
-        rw (e, header-is-address Y s h i n, index-address Y i) (in-below (place i hs) (length hs) (p .0), ap (address Y) (sym (p .1)))
+        rw (e, header-is-address Y s h i n, index-address Y i)
+        (in-below (place i hs) (length hs) (p .0), ap (address Y) (sym (p .1)))
 
     field-encodes : (i f : ℕ) → In i hs → kind Y (s .heap) i ≡ Traced → f < fieldCount Y (s .heap) i
         → Encodes Y kept headerOf (valueOf (at (s .heap) (i + 1 + f))) (at (s .heap) (i + 1 + f))
     field-encodes i f m k l =
-        encodes (at (s .heap) (i + 1 + f)) (words .heap (i + 1 + f)) (headers-valid Y s h (at (s .heap) (i + 1 + f)) (h .values i f m k l))
+        encodes (at (s .heap) (i + 1 + f)) (words .heap (i + 1 + f))
+        (headers-valid Y s h (at (s .heap) (i + 1 + f)) (h .values i f m k l))
 
     -- an object holds what stands from its header on
     object-holds : (i : ℕ) (k : Kind) → kind Y (s .heap) i ≡ k → In i hs

@@ -35,7 +35,8 @@ use Rattle.model.proofs.Tests.{cond-holds}
 -- the refusal of a number
 abbrev pub refusalOf : ℕ → Refusal
 refusalOf n =
-    cond (eqb n 1) Why.Shape (cond (eqb n 2) Why.Root (cond (eqb n 3) Why.Count (cond (eqb n 4) Why.Range (cond (eqb n 5) Why.Object
+    cond (eqb n 1) Why.Shape
+    (cond (eqb n 2) Why.Root (cond (eqb n 3) Why.Count (cond (eqb n 4) Why.Range (cond (eqb n 5) Why.Object
     (cond (eqb n 6) Why.Kind (cond (eqb n 7) Why.Field (cond (eqb n 8) Why.Damaged Why.Room)))))))
 
 -- what the numbers of a call say, where it is not refused
@@ -138,7 +139,8 @@ module _ (Y : Layout) (s : State) where
   step-back (Ask.RawWrite r f x) =
       on-roots (Ask.RawWrite r f x) (r ∷ []) _ (on-field (Ask.RawWrite r f x) Untraced r f _ (back refl))
   step-back (Ask.Same r q) =
-      on-roots (Ask.Same r q) (r ∷ q ∷ []) _ (either (Ask.Same r q) (eqb (rootWord s r) (rootWord s q)) Says.Yes Says.No refl refl)
+      on-roots (Ask.Same r q) (r ∷ q ∷ []) _
+      (either (Ask.Same r q) (eqb (rootWord s r) (rootWord s q)) Says.Yes Says.No refl refl)
   step-back (Ask.Inspect r) =
       on-roots (Ask.Inspect r) (r ∷ []) _
       (cond-holds (Back (Ask.Inspect r)) (isOdd (rootWord s r)) _ _ (λ e. back refl) (λ e.
@@ -155,7 +157,8 @@ module _ (Y : Layout) (s : State) where
 pub fresh-back : (s : State) → heard (Ask.SetNull 0) (told (fresh s .answer)) ≡ fresh s .answer
 unfolding fresh refuse
 fresh-back s =
-    cond-holds (λ (o : Outcome State). heard (Ask.SetNull 0) (told (o .answer)) ≡ o .answer) (badLength (length (s .heap))) _ _
+    cond-holds (λ (o : Outcome State). heard (Ask.SetNull 0) (told (o .answer)) ≡ o .answer)
+    (badLength (length (s .heap))) _ _
     (λ e. refl) (λ e. refl)
 
 pub number-back : (b : Bool) (k : Refusal) (w : ℕ)

@@ -24,10 +24,14 @@ pub never {ℓ} : {A : Type ℓ} {b : Bool} → b ≡ true → b ≡ false → A
 never {b = b} t f = absurd (true≢false (sym t ∙ f))
 
 pub decide : (a b : ℕ) → (a < b) ⊎ (b ≤ a)
-decide a b = ⊎-elim (λ (e : ltb a b ≡ true). inl (ltb-true a b e)) (λ (e : ltb a b ≡ false). inr (ltb-false a b e)) (by-test (ltb a b))
+decide a b =
+    ⊎-elim (λ (e : ltb a b ≡ true). inl (ltb-true a b e))
+    (λ (e : ltb a b ≡ false). inr (ltb-false a b e)) (by-test (ltb a b))
 
 pub same? : (a b : ℕ) → (a ≡ b) ⊎ (a ≡ b → ⊥)
-same? a b = ⊎-elim (λ (e : eqb a b ≡ true). inl (eqb-true a b e)) (λ (e : eqb a b ≡ false). inr (eqb-false a b e)) (by-test (eqb a b))
+same? a b =
+    ⊎-elim (λ (e : eqb a b ≡ true). inl (eqb-true a b e))
+    (λ (e : eqb a b ≡ false). inr (eqb-false a b e)) (by-test (eqb a b))
 
 -- ---- or
 

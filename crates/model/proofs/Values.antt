@@ -45,7 +45,8 @@ module _ (Y : Layout) where
   pub value-header : (hs : List ℕ) (w : ℕ) → isValue Y hs w ≡ true → isAddress w ≡ true → In (index Y w) hs
   unfolding isValue
   value-header hs w v p =
-      ⊎-elim (λ (q : not (isAddress w) ≡ true). never refl (sym (rw p at q))) (λ q. and-both (eqb (w % 4) 0) (mem (index Y w) hs) q .1)
+      ⊎-elim (λ (q : not (isAddress w) ≡ true). never refl (sym (rw p at q)))
+      (λ q. and-both (eqb (w % 4) 0) (mem (index Y w) hs) q .1)
       (or-cases (not (isAddress w)) (eqb (w % 4) 0 && mem (index Y w) hs) v)
 
   pub address-value : (hs : List ℕ) (i : ℕ) → In i hs → isValue Y hs (address Y i) ≡ true
@@ -81,7 +82,8 @@ module _ (Y : Layout) where
       let u : f < fieldCount Y H i = ltb-true _ _ b in
       let n = fields-length Y H i l in
       let c : getD (cells Y H i) (suc f) (still 0) ≡ fieldCell (kind Y H i) (at H (i + 1 + f)) =
-      getD-map (fieldCell (kind Y H i)) (fieldWords Y H i) f 0 (still 0) (omega arith) ∙ ap (fieldCell (kind Y H i)) (field-at Y H i f u) in
+      getD-map (fieldCell (kind Y H i)) (fieldWords Y H i) f 0 (still 0) (omega arith)
+      ∙ ap (fieldCell (kind Y H i)) (field-at Y H i f u) in
       let g = untraced-leads (kind Y H i) (at H (i + 1 + f)) j (ap (cellLeads Y) (sym c) ∙ e) in
       let p = leads-address (at H (i + 1 + f)) j (g .1) in
       record { field = f; place = refl; traced = g .0; under = u; pointer = p .0; to = p .1 })

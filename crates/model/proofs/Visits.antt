@@ -46,7 +46,8 @@ pub visit-only : (o : List ℕ) (l : Option ℕ) (j : ℕ) → In j (visit o l) 
 unfolding visit
 visit-only o none j h = inl h
 visit-only o (some i) j h =
-    ⊎-elim (λ e. inl (rw e at h)) (λ e. ⊎-elim inl (λ q. inr (ap some (sym q))) (in-snoc j i o (rw e at h))) (by-test (mem i o))
+    ⊎-elim (λ e. inl (rw e at h))
+    (λ e. ⊎-elim inl (λ q. inr (ap some (sym q))) (in-snoc j i o (rw e at h))) (by-test (mem i o))
 
 -- many visits
 pub visits-starts : (o : List ℕ) (ls : List (Option ℕ)) → Starts o (visits o ls)
@@ -72,4 +73,5 @@ pub visits-only : (o : List ℕ) (ls : List (Option ℕ)) (j : ℕ) → In j (vi
 unfolding visits
 visits-only o [] j h = inl h
 visits-only o (l ∷ ls) j h =
-    ⊎-elim (λ m. ⊎-elim inl (λ e. inr (zero, e)) (visit-only o l j m)) (λ t. inr (suc (t .0), t .1)) (visits-only (visit o l) ls j h)
+    ⊎-elim (λ m. ⊎-elim inl (λ e. inr (zero, e)) (visit-only o l j m)) (λ t. inr (suc (t .0), t .1))
+    (visits-only (visit o l) ls j h)
