@@ -29,4 +29,4 @@ Version: $version
 Cflags: -I\${prefix}/include
 Libs: -L\${prefix}/lib -lphachunoi
 END
-echo "dist/ has lib/libphachunoi.a, include/phachunoi.h and lib/pkgconfig/phachunoi.pc"
+echo "dist/ has lib/libphachunoi.a, include/phachunoi.h, include/phachunoi_show.h and lib/pkgconfig/phachunoi.pc"
