@@ -1,12 +1,12 @@
 // The limits of document 01, the halves of a heap, and the tests behind SHAPE and ROOT. Nothing here looks at
 // a heap word.
 ghost use mathlib.Core.Path.{_≡_};
-ghost use mathlib.Core.Bool.{_||_};
+ghost use mathlib.Core.List.{[], _∷_};
 ghost use Prim.Native.Nat.{_≤_};
-ghost use lib.Dec.{leb};
 ghost use Rattle.model.specs.Limits.{maxHalf};
 ghost use Rattle.model.specs.Words.{halfWordsOf, other, firstOf};
 ghost use Rattle.model.specs.Shape.{badLength, badShapeOf};
+ghost use Rattle.model.specs.Admission.{noRoots};
 use model::Half;
 use model::Index;
 use model::Record;
@@ -80,7 +80,7 @@ pub fn bad_shape(length: usize, root_count: usize, record: Record) -> bool
 
 // ROOT, of a call that names two roots: whether either number is that of none.
 pub fn no_root(root_count: usize, one: usize, other: usize) -> bool
-    ensures { λ r. ⌜ r ≡ (leb «root_count» one || leb «root_count» other) ⌝ }
+    ensures { λ r. ⌜ r ≡ noRoots «root_count» (one ∷ other ∷ []) ⌝ }
 {
     if root_count <= one {
         return true;
