@@ -38,9 +38,9 @@ pub fn tag(value: i64) -> Tagged
 pub fn untag(word: u32) -> i32
     ensures { λ r. ⌜ r ≡ Values.untag word ⌝ }
 {
-    let magnitude = word as u64 / 2;
-    if magnitude <= MAX_INTEGER {
-        return magnitude as i32;
+    let upper_bits = word as u64 / 2;
+    if upper_bits <= MAX_INTEGER {
+        return upper_bits as i32;
     }
     let below = (LAST_WORD - word as u64) / 2;
     -1 - below as i32
