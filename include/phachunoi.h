@@ -44,9 +44,9 @@ extern "C" {
 /* ---- Part 1: limits and numbers ------------------------------------------------------------------------------- */
 
 #define PHACHUNOI_VERSION_MAJOR 0
-#define PHACHUNOI_VERSION_MINOR 1
+#define PHACHUNOI_VERSION_MINOR 2
 #define PHACHUNOI_VERSION_PATCH 0
-#define PHACHUNOI_VERSION_NUMBER 1000 /* major * 1000000 + minor * 1000 + patch */
+#define PHACHUNOI_VERSION_NUMBER 2000 /* major * 1000000 + minor * 1000 + patch */
 
 #define PHACHUNOI_MAX_HALF 1048576u /* words in a half, S */
 #define PHACHUNOI_MAX_ROOTS 65536u
@@ -86,21 +86,22 @@ typedef struct phachunoi_record {
   uint32_t free;
 } phachunoi_record;
 
-/* The answer of most calls. `value` is 0 where a call names no answer. */
+/* The answer of fresh and allocate, with the record to pass to the next call. `value` is 0: neither names an answer. */
 typedef struct phachunoi_result {
   uint32_t refusal;
   uint32_t value;
   phachunoi_record record;
 } phachunoi_result;
 
-/* The answer of collect: `live` is the total of n + 1 over the reachable objects, the words in use now. */
+/* The answer of collect, with the record to pass to the next call: `live` is the total of n + 1 over the reachable
+   objects, the words in use now. */
 typedef struct phachunoi_collected {
   uint32_t refusal;
   uint32_t live;
   phachunoi_record record;
 } phachunoi_collected;
 
-/* The answer of a call that changes nothing, so that the record stays as it is. */
+/* The answer of every other call but inspect and open. `value` is 0 where a call names no answer. */
 typedef struct phachunoi_answer {
   uint32_t refusal;
   uint32_t value;
@@ -137,9 +138,10 @@ typedef char phachunoi_layout_as_in_the_archive
 /* ---- Part 3: the calls of the archive (proved) ----------------------------------------------------------------- */
 
 /* Every call but version, fresh and word begins with heap, word_count, roots, root_count, record, and can answer SHAPE.
-   A call that names no answer says "done"; whether an allocation collected is not told. `to` is a root that is written,
-   `from` and `object` are roots that are read; the same root may be named twice. Unless a call is marked as moving
-   objects, every object stays where it is. */
+   Fresh, collect and allocate return the record to pass to the next call, refused or not. Every other call leaves the
+   record that it was given, and returns none. A call that names no answer says "done"; whether an allocation collected
+   is not told. `to` is a root that is written, `from` and `object` are roots that are read; the same root may be named
+   twice. Unless a call is marked as moving objects, every object stays where it is. */
 
 /* The archive's PHACHUNOI_VERSION_NUMBER. A host compares it with the header's. */
 PHACHUNOI_API uint32_t phachunoi_version(void);
@@ -153,7 +155,7 @@ PHACHUNOI_API phachunoi_result phachunoi_fresh(uint32_t *heap, size_t word_count
    0; objects fill the used words exactly; each root and each field of a traced object is an integer, null or the
    address of one of those objects. It may mark in an idle half that is all 0, but no word differs afterwards.
    Refusals: SHAPE. */
-PHACHUNOI_API phachunoi_result phachunoi_check(uint32_t *heap, size_t word_count, const uint32_t *roots,
+PHACHUNOI_API phachunoi_answer phachunoi_check(uint32_t *heap, size_t word_count, const uint32_t *roots,
                                                size_t root_count, phachunoi_record record);
 
 /* Copies the reachable objects to the other half, breadth-first from root 0 on, packed; renames every address in roots
@@ -174,27 +176,27 @@ PHACHUNOI_API phachunoi_result phachunoi_allocate_untraced(uint32_t *heap, size_
                                                            size_t to);
 
 /* Root `to` becomes the integer `value`. Looks at no heap word. Refusals: SHAPE, ROOT, RANGE. */
-PHACHUNOI_API phachunoi_result phachunoi_set_integer(const uint32_t *heap, size_t word_count, uint32_t *roots,
+PHACHUNOI_API phachunoi_answer phachunoi_set_integer(const uint32_t *heap, size_t word_count, uint32_t *roots,
                                                      size_t root_count, phachunoi_record record, size_t to,
                                                      int64_t value);
 
 /* Root `to` becomes null. Looks at no heap word. Refusals: SHAPE, ROOT. */
-PHACHUNOI_API phachunoi_result phachunoi_set_null(const uint32_t *heap, size_t word_count, uint32_t *roots,
+PHACHUNOI_API phachunoi_answer phachunoi_set_null(const uint32_t *heap, size_t word_count, uint32_t *roots,
                                                   size_t root_count, phachunoi_record record, size_t to);
 
 /* Root `to` gets the word of root `from`, whatever it is. Looks at no heap word. Refusals: SHAPE, ROOT. */
-PHACHUNOI_API phachunoi_result phachunoi_copy(const uint32_t *heap, size_t word_count, uint32_t *roots,
+PHACHUNOI_API phachunoi_answer phachunoi_copy(const uint32_t *heap, size_t word_count, uint32_t *roots,
                                               size_t root_count, phachunoi_record record, size_t from, size_t to);
 
 /* Root `to` gets a field of the traced object that root `object` names. Fields count from 0.
    Refusals: SHAPE, ROOT, OBJECT, KIND, FIELD. */
-PHACHUNOI_API phachunoi_result phachunoi_load(const uint32_t *heap, size_t word_count, uint32_t *roots,
+PHACHUNOI_API phachunoi_answer phachunoi_load(const uint32_t *heap, size_t word_count, uint32_t *roots,
                                               size_t root_count, phachunoi_record record, size_t object, size_t field,
                                               size_t to);
 
 /* A field of the traced object that root `object` names gets the word of root `from`.
    Refusals: SHAPE, ROOT, OBJECT, KIND, FIELD. */
-PHACHUNOI_API phachunoi_result phachunoi_store(uint32_t *heap, size_t word_count, const uint32_t *roots,
+PHACHUNOI_API phachunoi_answer phachunoi_store(uint32_t *heap, size_t word_count, const uint32_t *roots,
                                                size_t root_count, phachunoi_record record, size_t object, size_t field,
                                                size_t from);
 
@@ -206,7 +208,7 @@ PHACHUNOI_API phachunoi_answer phachunoi_raw_read(const uint32_t *heap, size_t w
 
 /* A field of the untraced object that root `object` names becomes `number`, any 32 bits.
    Refusals: SHAPE, ROOT, OBJECT, KIND, FIELD. */
-PHACHUNOI_API phachunoi_result phachunoi_raw_write(uint32_t *heap, size_t word_count, const uint32_t *roots,
+PHACHUNOI_API phachunoi_answer phachunoi_raw_write(uint32_t *heap, size_t word_count, const uint32_t *roots,
                                                    size_t root_count, phachunoi_record record, size_t object,
                                                    size_t field, uint32_t number);
 
@@ -268,6 +270,10 @@ static inline enum phachunoi_refusal phachunoi_heap_keep(phachunoi_heap *h, phac
   return (enum phachunoi_refusal)r.refusal;
 }
 
+static inline enum phachunoi_refusal phachunoi_heap_said(phachunoi_answer a) {
+  return (enum phachunoi_refusal)a.refusal;
+}
+
 /* Lends words and roots for the struct's life, clears both and starts with an empty heap. `words` points to
    PHACHUNOI_WORDS(half) words. On a refusal the roots are untouched. */
 static inline enum phachunoi_refusal phachunoi_heap_begin(phachunoi_heap *h, uint32_t *words, size_t half,
@@ -288,9 +294,9 @@ static inline enum phachunoi_refusal phachunoi_heap_begin(phachunoi_heap *h, uin
 }
 
 static inline enum phachunoi_refusal phachunoi_heap_check(phachunoi_heap *h, int *sound) {
-  phachunoi_result r = phachunoi_check(PHACHUNOI_LENT(h));
-  *sound = (int)r.value;
-  return phachunoi_heap_keep(h, r);
+  phachunoi_answer a = phachunoi_check(PHACHUNOI_LENT(h));
+  *sound = (int)a.value;
+  return phachunoi_heap_said(a);
 }
 
 /* Moves objects. */
@@ -312,41 +318,41 @@ static inline enum phachunoi_refusal phachunoi_heap_allocate_untraced(phachunoi_
 }
 
 static inline enum phachunoi_refusal phachunoi_heap_set_integer(phachunoi_heap *h, size_t to, int64_t value) {
-  return phachunoi_heap_keep(h, phachunoi_set_integer(PHACHUNOI_LENT(h), to, value));
+  return phachunoi_heap_said(phachunoi_set_integer(PHACHUNOI_LENT(h), to, value));
 }
 
 static inline enum phachunoi_refusal phachunoi_heap_set_null(phachunoi_heap *h, size_t to) {
-  return phachunoi_heap_keep(h, phachunoi_set_null(PHACHUNOI_LENT(h), to));
+  return phachunoi_heap_said(phachunoi_set_null(PHACHUNOI_LENT(h), to));
 }
 
 static inline enum phachunoi_refusal phachunoi_heap_copy(phachunoi_heap *h, size_t from, size_t to) {
-  return phachunoi_heap_keep(h, phachunoi_copy(PHACHUNOI_LENT(h), from, to));
+  return phachunoi_heap_said(phachunoi_copy(PHACHUNOI_LENT(h), from, to));
 }
 
 static inline enum phachunoi_refusal phachunoi_heap_load(phachunoi_heap *h, size_t object, size_t field, size_t to) {
-  return phachunoi_heap_keep(h, phachunoi_load(PHACHUNOI_LENT(h), object, field, to));
+  return phachunoi_heap_said(phachunoi_load(PHACHUNOI_LENT(h), object, field, to));
 }
 
 static inline enum phachunoi_refusal phachunoi_heap_store(phachunoi_heap *h, size_t object, size_t field, size_t from) {
-  return phachunoi_heap_keep(h, phachunoi_store(PHACHUNOI_LENT(h), object, field, from));
+  return phachunoi_heap_said(phachunoi_store(PHACHUNOI_LENT(h), object, field, from));
 }
 
 static inline enum phachunoi_refusal phachunoi_heap_raw_read(const phachunoi_heap *h, size_t object, size_t field,
                                                              uint32_t *number) {
   phachunoi_answer a = phachunoi_raw_read(PHACHUNOI_LENT(h), object, field);
   *number = a.value;
-  return (enum phachunoi_refusal)a.refusal;
+  return phachunoi_heap_said(a);
 }
 
 static inline enum phachunoi_refusal phachunoi_heap_raw_write(phachunoi_heap *h, size_t object, size_t field,
                                                               uint32_t number) {
-  return phachunoi_heap_keep(h, phachunoi_raw_write(PHACHUNOI_LENT(h), object, field, number));
+  return phachunoi_heap_said(phachunoi_raw_write(PHACHUNOI_LENT(h), object, field, number));
 }
 
 static inline enum phachunoi_refusal phachunoi_heap_same(const phachunoi_heap *h, size_t one, size_t other, int *same) {
   phachunoi_answer a = phachunoi_same(PHACHUNOI_LENT(h), one, other);
   *same = (int)a.value;
-  return (enum phachunoi_refusal)a.refusal;
+  return phachunoi_heap_said(a);
 }
 
 static inline phachunoi_seen phachunoi_heap_inspect(const phachunoi_heap *h, size_t root) {
@@ -361,7 +367,7 @@ static inline enum phachunoi_refusal phachunoi_heap_word(const phachunoi_heap *h
                                                          uint32_t *word) {
   phachunoi_answer a = phachunoi_word(h->words, h->word_count, window, field);
   *word = a.value;
-  return (enum phachunoi_refusal)a.refusal;
+  return phachunoi_heap_said(a);
 }
 
 #ifdef __cplusplus

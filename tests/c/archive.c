@@ -42,17 +42,17 @@ static struct said plain_call(struct state *s, const struct call *c) {
   phachunoi_record record = {s->half, s->free};
   switch (c->op) {
   case FRESH: return kept(s, phachunoi_fresh(s->heap, s->words, record));
-  case CHECK: return kept(s, phachunoi_check(LENT(s)));
+  case CHECK: return answered(phachunoi_check(LENT(s)));
   case COLLECT: return collected(s, phachunoi_collect(LENT(s)));
   case NEW_TRACED: return kept(s, phachunoi_allocate_traced(LENT(s), c->b, c->a));
   case NEW_UNTRACED: return kept(s, phachunoi_allocate_untraced(LENT(s), c->b, c->a));
-  case SET_INTEGER: return kept(s, phachunoi_set_integer(LENT(s), c->a, c->integer));
-  case SET_NULL: return kept(s, phachunoi_set_null(LENT(s), c->a));
-  case COPY: return kept(s, phachunoi_copy(LENT(s), c->a, c->c));
-  case LOAD: return kept(s, phachunoi_load(LENT(s), c->a, c->b, c->c));
-  case STORE: return kept(s, phachunoi_store(LENT(s), c->a, c->b, c->c));
+  case SET_INTEGER: return answered(phachunoi_set_integer(LENT(s), c->a, c->integer));
+  case SET_NULL: return answered(phachunoi_set_null(LENT(s), c->a));
+  case COPY: return answered(phachunoi_copy(LENT(s), c->a, c->c));
+  case LOAD: return answered(phachunoi_load(LENT(s), c->a, c->b, c->c));
+  case STORE: return answered(phachunoi_store(LENT(s), c->a, c->b, c->c));
   case RAW_READ: return answered(phachunoi_raw_read(LENT(s), c->a, c->b));
-  case RAW_WRITE: return kept(s, phachunoi_raw_write(LENT(s), c->a, c->b, c->number));
+  case RAW_WRITE: return answered(phachunoi_raw_write(LENT(s), c->a, c->b, c->number));
   case SAME: return answered(phachunoi_same(LENT(s), c->a, c->c));
   case INSPECT: return seen(phachunoi_inspect(LENT(s), c->a));
   case OPEN: return opened(phachunoi_open(LENT(s), c->a));

@@ -18,8 +18,8 @@ use Rattle.model.proofs.Retiling.{tiles-same}
 use Rattle.model.proofs.Tests.{by-test, same?}
 use Rattle.model.proofs.Tiling.{tiles-step, headers-tile}
 use Rattle.model.proofs.Walks.{tiles-past}
-use Rattle.runs.specs.Runs.{run}
-use Rattle.runs.proofs.RunLaws.{Outside, Apart}
+use Rattle.runs.specs.Runs.{run, Apart}
+use Rattle.runs.proofs.RunLaws.{Outside}
 use Rattle.checker_marks.specs.declared.Part.{Part}
 use Rattle.checker_marks.specs.Marks.{usedWords, markAt, Marking, markHeaders, isTiledPart, headersOf}
 use Rattle.checker_marks.proofs.Turns.{mark-ended}

@@ -18,8 +18,7 @@ use Rattle.model.specs.Shape.{badShape}
 use Rattle.model.specs.Soundness.{all, allZero, sound}
 use Rattle.model.specs.Values.{isNull}
 use Rattle.model.specs.Words.{stateOf, at, halfWords, other, firstOf}
-use Rattle.runs.specs.Runs.{run, cleared}
-use Rattle.runs.proofs.RunLaws.{Apart}
+use Rattle.runs.specs.Runs.{run, cleared, Apart}
 use Rattle.checker_marks.specs.declared.Part.{Part}
 use Rattle.checker_marks.specs.Marks.{Fits, Halves, part, usedWords, partOf, Marking, marking, marked, isZeroAround}
 use Rattle.checker_marks.specs.Marks.{isValueByMarks, fieldsAreValuesByMarks, isTiledPart, headersOf, allAreValuesByMarks}

@@ -23,8 +23,8 @@ use Rattle.model.proofs.Shape.{Shaped, shaped, first-in, other-in}
 use Rattle.model.proofs.Soundness.{zeros-at}
 use Rattle.model.proofs.Tests.{by-test, decide, and-both}
 use Rattle.model.proofs.Tiling.{headers-tile}
-use Rattle.runs.specs.Runs.{cleared}
-use Rattle.runs.proofs.RunLaws.{Apart, cleared-length, cleared-inside, cleared-outside}
+use Rattle.runs.specs.Runs.{cleared, Apart}
+use Rattle.runs.proofs.RunLaws.{cleared-length, cleared-inside, cleared-outside}
 use Rattle.checker_marks.specs.declared.Part.{Part}
 use Rattle.checker_marks.specs.Marks.{Fits, Halves, usedWords, partOf, markAt, marked, isZeroAround, isValueByMarks}
 use Rattle.checker_marks.specs.Marks.{fieldsAreValuesByMarks, isTiledPart, headersOf, allAreValuesByMarks, usedPartSound}

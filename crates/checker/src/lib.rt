@@ -9,25 +9,23 @@ ghost use Rattle.model.specs.Calls as Calls;
 ghost use Rattle.model.specs.Headers.{tuple};
 ghost use Rattle.model.specs.Limits.{maxHalf};
 ghost use Rattle.model.specs.Soundness.{all, sound};
-ghost use Rattle.runs.specs.Runs.{cleared};
-ghost use Rattle.runs.proofs.RunLaws.{Apart};
+ghost use Rattle.runs.specs.Runs.{cleared, Apart};
 ghost use Rattle.checker_marks.specs.Marks.{Fits, Halves, usedWords, partOf, marked, isTiledPart, headersOf};
 ghost use Rattle.checker_marks.specs.Marks.{isZeroAround, fieldsAreValuesByMarks, allAreValuesByMarks};
 ghost use Rattle.checker_marks.specs.Marks.{usedPartSound};
 use checker_marks::Part;
 use checker_marks::are_values;
-use checker_marks::fields_are_values;
 use checker_marks::mark_headers;
 use model::Answer;
 use model::Answered;
-use model::Index;
 use model::Record;
 use model::Refusal;
 use model::say;
 use words::shape;
 use words::tuple::Tuple;
 
-// Whether the fields of each traced object of the part are values.
+// Whether the fields of each traced object of the part are values. The two kinds are passed apart: a traced
+// header is its count twice, so that the next index waits for less.
 fn all_fields_are_values(heap: &[u32], part: Part) -> bool
     requires { ⌜ Fits (now heap) part × (isTiledPart tuple (now heap) part ≡ true) ⌝ }
     ensures { λ r. ⌜ r
@@ -37,10 +35,16 @@ fn all_fields_are_values(heap: &[u32], part: Part) -> bool
     let free = part.free.0;
     let mut at = part.first.0;
     while at < free {
-        if !fields_are_values(heap, part, Index(at)) {
-            return false;
+        let header = heap[at];
+        if Tuple::is_traced(header) {
+            let n = Tuple::count_of(header);
+            if !are_values(heap, at + 1, n, heap, part) {
+                return false;
+            }
+            at = at + 1 + n;
+        } else {
+            at = at + 1 + Tuple::count_of(header);
         }
-        at += Tuple::count_of(heap[at]) + 1;
     }
     true
 }

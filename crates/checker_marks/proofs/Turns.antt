@@ -3,19 +3,22 @@
 use Prim.Native.Nat.{ℕ, zero, suc, _+_, _-_, _%_, _≤_, _<_}
 use native.Mathlib.Omega.{arith}
 use mathlib.Core.Path.{_≡_, refl, sym, ap, _∙_}
+use mathlib.Core.Logic.{⊎-elim}
 use mathlib.Core.Bool.{Bool, true, false, _&&_}
 use mathlib.Core.List.{List, _∷_}
 use lib.Dec.{eqb, ltb, leb}
 use lib.ListN.{length, set, take}
 use lib.Seq.{drop-cons}
-use borrow.Author.Tests.{lt-ltb, le-ltb, le-leb, lt-leb, eq-eqb, ne-eqb}
+use borrow.Author.Tests.{ltb-true, leb-true, lt-ltb, le-ltb, ne-eqb}
+use Rattle.model.proofs.Tests.{same?, and-both}
 use Rattle.model.specs.Headers.{Layout}
 use Rattle.model.specs.Objects.{isTraced, index, kind, fieldCount, size}
 use Rattle.model.specs.Soundness.{all}
 use Rattle.model.specs.Words.{at}
 use Rattle.runs.specs.Runs.{run}
 use Rattle.checker_marks.specs.declared.Part.{Part}
-use Rattle.checker_marks.specs.Marks.{markAt, marking, markHeaders, isValueByMarks, fieldsAreValuesByMarks}
+use Rattle.checker_marks.specs.Marks.{Fits, usedWords, markAt, marking, markHeaders, markedFrom}
+use Rattle.checker_marks.specs.Marks.{isValueByMarks, fieldsAreValuesByMarks}
 
 -- ---- a run of words, tested one after the other
 module _ (q : ℕ → Bool) (l : List ℕ) (from n i : ℕ) where
@@ -69,8 +72,8 @@ module _ (Y : Layout) (p : Part) where
   mark-enough (suc n) (suc m) H i a b =
       rw (mark-enough n m (set H (markAt p i) 1) (i + size Y H i) (omega arith) (omega arith))
 
-  pub mark-turn : (H : List ℕ) (i : ℕ) → i < p .free .0 → Y .isHeader (at H i) ≡ true → (n : ℕ) → n ≡ fieldCount Y H i
-      → markHeaders Y (p .free .0 - (i + (n + 1))) (set H (markAt p i) 1) p (i + (n + 1)) ≡ markHeaders Y (p .free .0 - i) H p i
+  pub mark-turn : (H : List ℕ) (i : ℕ) → i < p .free .0 → Y .isHeader (at H i) ≡ true → (n : ℕ) → n ≡ size Y H i
+      → markedFrom Y (set H (markAt p i) 1) p (i + n) ≡ markedFrom Y H p i
   mark-turn H i d b n c =
       let s : p .free .0 - i ≡ suc (p .free .0 - i - 1) = omega arith in
       rw c
@@ -78,33 +81,41 @@ module _ (Y : Layout) (p : Part) where
       ∙ sym (ap (λ (n : ℕ). markHeaders Y n H p i) s ∙ mark-next (p .free .0 - i - 1) H i d b))
 
 -- ---- one word against the marks
+
+-- whether an index is in the part, as `in_run` answers
+abbrev pub inPart : Part → ℕ → Bool
+inPart p i = leb (p .first .0) i && ltb i (p .first .0 + usedWords p)
+
 module _ (Y : Layout) (H : List ℕ) (p : Part) (w : ℕ) where
-  pub value-odd : w % 2 ≡ 1 → isValueByMarks Y H p w ≡ true
+  pub value-askew : (w % 4 ≡ 0 → ⊥) → isValueByMarks Y H p w ≡ eqb (w % 2) 1
   unfolding isValueByMarks
-  value-odd o = rw (ne-eqb (w % 2) 0 (omega arith))
+  value-askew n =
+      ⊎-elim
+      (λ (e : w % 2 ≡ 0). rw (e, ne-eqb w 0 (omega arith), ne-eqb (w % 4) 0 n))
+      (λ (o : w % 2 ≡ 0 → ⊥). let e : w % 2 ≡ 1 = omega arith in rw e)
+      (same? (w % 2) 0)
 
   pub value-null : w ≡ 0 → isValueByMarks Y H p w ≡ true
   unfolding isValueByMarks
   value-null z = rw z
 
-  module _ (even : w % 2 ≡ 0) (some : w ≡ 0 → ⊥) where
-    pub value-askew : (w % 4 ≡ 0 → ⊥) → isValueByMarks Y H p w ≡ false
-    unfolding isValueByMarks
-    value-askew n = rw (eq-eqb (w % 2) 0 even, ne-eqb w 0 some, ne-eqb (w % 4) 0 n)
+  -- an address, by the answer whether its index is in the part
+  pub value-named : w % 4 ≡ 0 → (w ≡ 0 → ⊥) → Fits H p → (i : ℕ) → i ≡ index Y w → (inside : Bool)
+      → inside ≡ inPart p i
+      → isValueByMarks Y H p w ≡ (inside && eqb (at H (markAt p i)) 1)
+  unfolding isValueByMarks
+  value-named four some f i is inside e =
+      let even : w % 2 ≡ 0 = omega arith in
+      let end : p .first .0 + usedWords p ≡ p .free .0 = omega arith in
+      rw (even, ne-eqb w 0 some, four, ← is, e, end)
 
-    module _ (i : ℕ) (is : i ≡ index Y w) (four : w % 4 ≡ 0) where
-      value-there : isValueByMarks Y H p w ≡ (leb (p .first .0) i && ltb i (p .free .0) && eqb (at H (markAt p i)) 1)
-      unfolding isValueByMarks
-      value-there = rw (eq-eqb (w % 2) 0 even, ne-eqb w 0 some, eq-eqb (w % 4) 0 four, ← is)
-
-      pub value-low : i < p .first .0 → isValueByMarks Y H p w ≡ false
-      value-low l = value-there ∙ rw (lt-leb (p .first .0) i l)
-
-      pub value-high : p .first .0 ≤ i → p .free .0 ≤ i → isValueByMarks Y H p w ≡ false
-      value-high l m = value-there ∙ rw (le-leb (p .first .0) i l, le-ltb i (p .free .0) m)
-
-      pub value-marked : p .first .0 ≤ i → i < p .free .0 → isValueByMarks Y H p w ≡ eqb (at H (markAt p i)) 1
-      value-marked l m = value-there ∙ rw (le-leb (p .first .0) i l, lt-ltb i (p .free .0) m)
+-- an index in the part has its mark in the heap
+pub mark-within : (H : List ℕ) (p : Part) (i : ℕ) → Fits H p → true ≡ inPart p i → (p .first .0 ≤ i) × (markAt p i < length H)
+mark-within H p i f e =
+    let both = and-both (leb (p .first .0) i) (ltb i (p .first .0 + usedWords p)) (sym e) in
+    let above = leb-true (p .first .0) i (both .0) in
+    let below = ltb-true i (p .first .0 + usedWords p) (both .1) in
+    (above, omega arith)
 
 -- ---- one object
 module _ (Y : Layout) (H : List ℕ) (p : Part) (i : ℕ) where

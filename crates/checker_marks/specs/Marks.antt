@@ -64,8 +64,12 @@ module _ (Y : Layout) where
       let rest = markHeaders n (set H (markAt p i) 1) p (i + size Y H i) in
       cond (ltb i (p .free .0) && Y .isHeader (at H i)) rest (marking H i)
 
+  -- as many as the words from i to the free index are enough
+  abbrev pub markedFrom : List ℕ → Part → ℕ → Marking
+  markedFrom H p i = markHeaders (p .free .0 - i) H p i
+
   abbrev pub marked : List ℕ → Part → Marking
-  marked H p = markHeaders (usedWords p) H p (p .first .0)
+  marked H p = markedFrom H p (p .first .0)
 
   -- odd, 0, or the address of a marked word
   unfoldable pub isValueByMarks : List ℕ → Part → ℕ → Bool

@@ -8,22 +8,27 @@ use mathlib.Core.List.{List, []}
 use lib.ListN.{length}
 use Rattle.model.specs.declared.Record.{Record}
 use Rattle.model.specs.declared.Call.{Call}
+use Rattle.model.specs.declared.Call.the-variants as Ask
 use Rattle.model.specs.declared.Answered.{Answered}
 use Rattle.model.specs.declared.Told.{Told}
 use Rattle.model.specs.declared.Place.{Place}
 use Rattle.model.specs.Words.{State, stateOf, free}
 use Rattle.model.specs.Headers.{tuple}
 use Rattle.model.specs.Shape.{badLength}
-use Rattle.model.specs.Answers.{Outcome, outcomeOf, told, refuse}
-use Rattle.model.specs.Calls.{fresh}
+use Rattle.model.specs.Answers.{Outcome, says, outcomeOf, told, refuse}
+use Rattle.model.specs.Calls.{fresh, inspect}
+use Rattle.model.specs.Laws.{changesRecord}
 use Rattle.model.specs.Window.{window}
 use Rattle.model.specs.Sessions.{step}
+use Rattle.model.proofs.Leaving.{record-stays, inspect-stays}
 use Rattle.crossing.specs.declared.CRecord.{CRecord}
 use Rattle.crossing.specs.declared.CResult.{CResult}
+use Rattle.crossing.specs.declared.CSeen.{CSeen}
 use Rattle.crossing.specs.declared.CWindow.{CWindow}
-use Rattle.crossing.specs.Numbers.{Given, givenOf, calledOf, begun, resultOf, noHalf, windowOf, opened}
+use Rattle.crossing.specs.Numbers.{Given, givenOf, calledOf, begun, resultOf, seenOf, keeping, noHalf, windowOf, opened}
 use Rattle.crossing.specs.Crossing.{nowhere, taken, back, freshBack, Narrow, NarrowPlace}
 use Rattle.crossing.proofs.ShapeFirst.{nowhere-bad, shape-first, window-shape}
+use Rattle.crossing.proofs.Laws.{record-law}
 use Rattle.crossing.proofs.FreeIndexes.{step-narrow, window-narrow}
 
 -- the call that was made, of the record that was taken
@@ -50,6 +55,36 @@ module _ {T : Type 0} (returns : Told → CRecord → T) (c : CRecord) where
       → q ≡ taken c → outcomeOf o H′ R′ ≡ step tuple k (stateOf H R q)
       → r ≡ returns (told (o .answer)) (back c (o .«record»)) → givenOf r H′ R′ ≡ calledOf returns (step tuple k) H R c
   crosses {H′} {R′} H R k e f g = ap (λ x. givenOf x H′ R′) g ∙ ap sent (made H R c k e f) ∙ lands k H R (noHalf c) refl
+
+-- a call that returns no record: the one that came is the one that it leaves
+back-taken : (c : CRecord) → back c (taken c) ≡ c
+back-taken c = go (noHalf c) refl
+  where
+    go : (b : Bool) → noHalf c ≡ b → back c (taken c) ≡ c
+    go true e = rw e
+    go false e = rw e (record-law .back c e)
+
+pub keeps : {T : Type 0} {H′ R′ : List ℕ} {q : Record} {o : Answered} {r : T} (returns : Told → T) (c : CRecord)
+    (H R : List ℕ) (k : Call) → changesRecord k ≡ false
+    → q ≡ taken c → outcomeOf o H′ R′ ≡ step tuple k (stateOf H R q)
+    → r ≡ returns (told (o .answer)) → givenOf (r, c) H′ R′ ≡ calledOf (keeping returns) (step tuple k) H R c
+keeps {o = o} returns c H R k n e f g = crosses (keeping returns) c H R k e f (λ i. (g i, sym comes-back i))
+  where
+    left : o .«record» ≡ taken c
+    left = ap (λ (z : Outcome State). z .left .«record») f ∙ record-stays tuple k (stateOf H R _) n ∙ e
+
+    comes-back : back c (o .«record») ≡ c
+    comes-back = ap (back c) left ∙ back-taken c
+
+-- inspect, in numbers already
+pub seen : {q : Record} {t : Told} {r : CSeen} (c : CRecord) (H R : List ℕ) (root : ℕ)
+    → q ≡ taken c → t ≡ told (inspect tuple root (stateOf H R q) .answer)
+    → r ≡ seenOf t → givenOf (r, c) H R ≡ calledOf (keeping seenOf) (inspect tuple root) H R c
+unfolding step
+seen {q} c H R root e f g =
+    let s = stateOf H R q in
+    keeps {o = record { answer = inspect tuple root s .answer; «record» = q }} seenOf c H R (Ask.Inspect root) refl e
+    (λ i. says (inspect tuple root s .answer) (sym (inspect-stays tuple root s) i)) (g ∙ ap seenOf f)
 
 -- the bounds by which the record goes back
 taken-narrow : {q : Record} (c : CRecord) → q ≡ taken c → Narrow (c .free) → Narrow (q .free .0)

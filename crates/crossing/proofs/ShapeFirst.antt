@@ -1,10 +1,12 @@
 -- Every call tests SHAPE first, and a free index of 0 is SHAPE in every heap.
 use Prim.Native.Nat.{ℕ, _+_}
-use mathlib.Core.Path.{_≡_, refl}
+use native.Mathlib.Omega.{arith}
+use mathlib.Core.Path.{_≡_}
 use mathlib.Core.Bool.{Bool, true, _||_}
 use mathlib.Core.List.{List}
 use lib.Dec.{ltb}
 use lib.ListN.{length}
+use borrow.Author.Tests.{lt-ltb}
 use Rattle.model.specs.declared.Refusal.{Refusal}
 use Rattle.model.specs.declared.Refusal.the-variants as Why
 use Rattle.model.specs.declared.Answer.the-variants as Says
@@ -26,8 +28,9 @@ pub nowhere-bad : (H R : List ℕ) → badShape (stateOf H R nowhere) ≡ true
 unfolding badShapeOf
 nowhere-bad H R =
     let S = halfWords H in
-    or-left (badLength (length H) || ltb maxRoots (length R) || true) (ltb (1 + S) 0)
-    (or-right (badLength (length H) || ltb maxRoots (length R)) true refl)
+    let low : ltb 0 (S + 1) ≡ true = lt-ltb 0 (S + 1) (omega arith) in
+    or-left (badLength (length H) || ltb maxRoots (length R) || ltb 0 (S + 1)) (ltb (S + 1 + S) 0)
+    (or-right (badLength (length H) || ltb maxRoots (length R)) (ltb 0 (S + 1)) low)
 
 refused : {b : Bool} {k : Refusal} {s : State} (next : Outcome State) → b ≡ true
     → refuse b k s next ≡ says (Says.Refused k) s

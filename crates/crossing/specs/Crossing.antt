@@ -3,7 +3,7 @@
 use Prim.Native.Nat.{ℕ, _+_, _<_}
 use mathlib.Core.Bool.{cond}
 use lib.Dec.{eqb}
-use Rattle.model.specs.declared.Half.the-variants.{A}
+use Rattle.model.specs.declared.Half.the-variants.{B}
 use Rattle.model.specs.declared.Record.{Record}
 use Rattle.model.specs.declared.Place.{Place}
 use Rattle.model.specs.declared.Place.the-variants.{Object, Refused}
@@ -13,7 +13,7 @@ use Rattle.crossing.specs.Numbers.{noHalf, numbersOf, recordOf}
 
 -- a record that no heap has: the free index 0 lies in no half, so that every call answers SHAPE
 abbrev pub nowhere : Record
-nowhere = record { half = A; free = record { 0 = 0 } }
+nowhere = record { half = B; free = record { 0 = 0 } }
 
 -- the record to call with
 abbrev pub taken : CRecord → Record

@@ -12,6 +12,10 @@ use Rattle.crossing.specs.Numbers.{Given, givenOf, calledOf}
 abbrev pub given : {T : Type 0} → T → Behind (List ℕ) → Behind (List ℕ) → Given T
 given r heap roots = givenOf r (heap .exit .now) (roots .exit .now)
 
+-- of a call that hands no record back: what it returns, beside the record that it was lent
+abbrev pub kept : {T : Type 0} → T → Behind (List ℕ) → Behind (List ℕ) → CRecord → Given (T × CRecord)
+kept r heap roots c = given (r, c) heap roots
+
 -- the model's call, given the words that it was lent and C's record
 abbrev pub called : {T : Type 0} → (Told → CRecord → T) → (State → Outcome State) → Behind (List ℕ) → Behind (List ℕ) → CRecord → Given T
 called returns f heap roots c = calledOf returns f (heap .entry .now) (roots .entry .now) c

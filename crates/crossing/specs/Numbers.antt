@@ -25,9 +25,9 @@ use Rattle.crossing.specs.declared.CAnswer.{CAnswer}
 use Rattle.crossing.specs.declared.CSeen.{CSeen}
 use Rattle.crossing.specs.declared.CWindow.{CWindow}
 
--- 0.1.0, as major * 1,000,000 + minor * 1,000 + patch
+-- 0.2.0, as major * 1,000,000 + minor * 1,000 + patch
 abbrev pub version : ℕ
-version = 1_000
+version = 2_000
 
 -- ---- records: half A is 0, half B is 1, and no other number is a half
 
@@ -53,12 +53,15 @@ resultOf t c = record { refusal = t .refusal; value = t .value; «record» = c }
 abbrev pub collectedOf : Told → CRecord → CCollected
 collectedOf t c = record { refusal = t .refusal; live = t .value; «record» = c }
 
--- no record, where the call changes nothing
 abbrev pub answerOf : Told → CAnswer
 answerOf t = record { refusal = t .refusal; value = t .value }
 
 abbrev pub seenOf : Told → CSeen
 seenOf t = record { refusal = t .refusal; kind = t .holds; integer = t .integer; count = t .value }
+
+-- of a call that hands no record back: what it returns, beside the record that it leaves
+abbrev pub keeping : {T : Type 0} → (Told → T) → Told → CRecord → T × CRecord
+keeping returns t c = (returns t, c)
 
 -- ---- the calls
 

@@ -12,6 +12,7 @@ use model::Index;
 use model::Place;
 use model::Record;
 use model::Refusal;
+use model::Told;
 use numbers::number;
 
 #[repr(C)]
@@ -20,7 +21,7 @@ pub struct CRecord {
     pub free: u32,
 }
 
-// Of a call that answers no more than done, or one number.
+// Of a call that may leave another record than it was lent: the one to hand to the next call.
 #[repr(C)]
 pub struct CResult {
     pub refusal: u32,
@@ -35,7 +36,7 @@ pub struct CCollected {
     pub record: CRecord,
 }
 
-// Of a call that changes nothing, so that the host keeps its record.
+// Of a call that leaves the record that it was lent, so that the host keeps its own.
 #[repr(C)]
 pub struct CAnswer {
     pub refusal: u32,
@@ -58,27 +59,19 @@ pub struct CWindow {
     pub count: u32,
 }
 
-// The record to call with. A free index of 0 is SHAPE in every heap, which a half that is none has to be.
+// The record to call with. A free index of 0 is SHAPE in every heap, which a half that is none has to be. Half
+// and index are chosen one by one, which takes no jump: every call comes this way.
 pub fn record_of(record: CRecord) -> Record
     ensures { λ r. ⌜ r ≡ taken «record» ⌝ }
 {
-    let free = Index(record.free as usize);
-    if record.half == 0 {
-        return Record {
-            half: Half::A,
-            free,
-        };
-    }
-    if record.half == 1 {
-        return Record {
-            half: Half::B,
-            free,
-        };
-    }
-    Record {
-        half: Half::A,
-        free: Index(0),
-    }
+    let half = if record.half == 0 { Half::A } else { Half::B };
+    let given = record.free as usize;
+    let free = if 1 < record.half {
+        Index(0)
+    } else {
+        Index(given)
+    };
+    Record { half, free }
 }
 
 pub fn numbers_of(record: Record) -> CRecord
@@ -174,10 +167,10 @@ pub fn answer_of(answer: Answer) -> CAnswer
     }
 }
 
-pub fn seen_of(answer: Answer) -> CSeen
-    ensures { λ r. ⌜ r ≡ Numbers.seenOf (told answer) ⌝ }
+// What inspect found, in numbers already: an answer with an integer or a count in it would go through memory.
+pub fn seen_of(told: Told) -> CSeen
+    ensures { λ r. ⌜ r ≡ Numbers.seenOf told ⌝ }
 {
-    let told = numbers::told(answer);
     CSeen {
         refusal: told.refusal,
         kind: told.holds,

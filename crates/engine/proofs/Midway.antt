@@ -24,8 +24,8 @@ use Rattle.model.proofs.Soundness.{SoundTests}
 use Rattle.model.proofs.During.{settle-stable}
 use Rattle.model.proofs.Middle.{halves-ordered, cell-word, packed-snoc, header-within, header-half, header-outside}
 use Rattle.model.proofs.Middle.{header-alone, distinct-fits}
-use Rattle.runs.specs.Runs.{copiedRun}
-use Rattle.runs.proofs.RunLaws.{Outside, Apart, copied-outside, copied-inside, copied-length}
+use Rattle.runs.specs.Runs.{copiedRun, Apart}
+use Rattle.runs.proofs.RunLaws.{Outside, copied-outside, copied-inside, copied-length}
 use Rattle.engine_moving.specs.Moving.{moved}
 
 -- midway in a collection of s: the objects of the order o are copied, p words of the copies are passed, and the heap is h
@@ -127,7 +127,7 @@ module _ (Y : Layout) (s : State) (v : SoundTests Y s) (o : List ℕ) (p : ℕ) 
   held : (d : ℕ) → d < size Y H k → at h (k + d) ≡ at H (k + d)
   held d l = M .kept (k + d) (header-outside Y s v k d hk l) (k-words d l)
 
-  runs-apart : Apart k f (size Y h k)
+  pub runs-apart : Apart k f (size Y h k)
   runs-apart =
       let b = header-half Y s v k (Y .countOf (at H k)) hk (omega arith) in
       let a = header-half Y s v k 0 hk (omega arith) in

@@ -27,7 +27,7 @@ use Rattle.model.proofs.Middle.{header-within, distinct-fits}
 use Rattle.engine_moving.specs.declared.Met.the-variants.{Copied, Found}
 use Rattle.engine_moving.specs.Moving.{left, moved, renamed, MayRename}
 use Rattle.engine_moving.proofs.MovingLaws.{relocated-copied, relocated-found, renamed-address, renamed-plain}
-use Rattle.engine.proofs.Midway.{Midway, header-kept, same-size, more-words, copy-within, moved-midway}
+use Rattle.engine.proofs.Midway.{Midway, header-kept, same-size, more-words, runs-apart, copy-within, moved-midway}
 
 -- what renaming w leaves, at the order o
 pub record Renames (Y : Layout) (s : State) (o : List ℕ) (p : ℕ) (h : List ℕ) (w f : ℕ) : Type 0 where
@@ -69,6 +69,7 @@ module _ (Y : Layout) (K : Marks Y) (s : State) (v : SoundTests Y s) (o : List �
         within = omega (arith, header-within Y s v k (M .heads k m), M .same);
         whole = λ a. never a marked;
         fits = λ a. never a marked;
+        apart = λ a. never a marked;
         near = near;
       };
       word = rw (is, rename-address Y w H o t q) (ap (Y .unmark) (M .mark k m) ∙ K .unmarks (t + wordsBefore (cells Y H) o k + Y .ahead));
@@ -89,6 +90,7 @@ module _ (Y : Layout) (K : Marks Y) (s : State) (v : SoundTests Y s) (o : List �
         within = omega (arith, header-within Y s v k hk, M .same);
         whole = λ a. omega (arith, sz, header-within Y s v k hk, M .same);
         fits = λ a. copy-within Y s v o p h M k hk m;
+        apart = λ a. runs-apart Y s v o p h M k hk m;
         near = near;
       };
       word = rw (is, rename-address Y w H (o ++ (k ∷ [])) t q, wordsBefore-last (cells Y H) o [] k m);

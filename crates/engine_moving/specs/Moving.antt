@@ -9,7 +9,7 @@ use Rattle.model.specs.Words.{at}
 use Rattle.model.specs.Values.{isAddress}
 use Rattle.model.specs.Headers.{Layout}
 use Rattle.model.specs.Objects.{address, index, size}
-use Rattle.runs.specs.Runs.{copiedRun}
+use Rattle.runs.specs.Runs.{copiedRun, Apart}
 use Rattle.engine_moving.specs.declared.Met.{Met}
 use Rattle.engine_moving.specs.declared.Met.the-variants.{Plain, Copied, Found}
 
@@ -37,11 +37,12 @@ module _ (Y : Layout) where
   unfoldable pub renamed : List ℕ → ℕ → ℕ → Left
   renamed h w f = cond (isAddress w) (relocated h (index Y w) f) (left h w f Plain)
 
-  -- what keeps a move inside the heap, and the copy's address inside a word
+  -- what keeps a move inside the heap and off the object, and the copy's address inside a word
   pub record MayMove (h : List ℕ) (i f : ℕ) : Type 0 where
     pub within : i < length h
     pub whole : Y .isHeader (at h i) ≡ true → i + size Y h i ≤ length h
     pub fits : Y .isHeader (at h i) ≡ true → f + size Y h i ≤ length h
+    pub apart : Y .isHeader (at h i) ≡ true → Apart i f (size Y h i)
     pub near : f ≤ maxWords
 
   abbrev pub MayRename : List ℕ → ℕ → ℕ → Type 0

@@ -33,19 +33,20 @@ module _ (Y : Layout) (s : State) (h : SoundTests Y s) where
       (parts-address (rootWord s r) (n .even) (n .notNull))
 
   pub stays-sound : WritesBoth Y → (c : Call) → SoundTests Y (step Y c s .left)
-  stays-sound law = step-left Y s (SoundTests Y) (record {
-    itself = h;
-    integer = λ r v e. root-sound Y s h r (tag v) (plain-value Y (headers Y s) (tag v) (tag-no-address v e));
-    null = λ r. root-sound Y s h r 0 (zero-value Y (headers Y s));
-    copied = λ from to l. root-sound Y s h to (rootWord s from) (h .roots from l);
-    loaded = λ r f to g.
-        root-sound Y s h to (at (s .heap) (fieldIndex (index Y (rootWord s r)) f))
-        (h .values (index Y (rootWord s r)) f (is-header Traced r f g) (g .kind-is) (g .below));
-    stored = λ r f from g l.
-        word-sound Y s h (index Y (rootWord s r)) f (rootWord s from) (is-header Traced r f g) (g .below) (λ z. h .roots from l);
-    written = λ r f x g.
-        word-sound Y s h (index Y (rootWord s r)) f x (is-header Untraced r f g) (g .below)
-        (λ z. never (ap isTraced z) (ap isTraced (g .kind-is)));
+  stays-sound law = step-left Y s (SoundTests Y) h (record {
+    words = record {
+      integer = λ r v e. root-sound Y s h r (tag v) (plain-value Y (headers Y s) (tag v) (tag-no-address v e));
+      null = λ r. root-sound Y s h r 0 (zero-value Y (headers Y s));
+      copied = λ from to l. root-sound Y s h to (rootWord s from) (h .roots from l);
+      loaded = λ r f to g.
+          root-sound Y s h to (at (s .heap) (fieldIndex (index Y (rootWord s r)) f))
+          (h .values (index Y (rootWord s r)) f (is-header Traced r f g) (g .kind-is) (g .below));
+      stored = λ r f from g l.
+          word-sound Y s h (index Y (rootWord s r)) f (rootWord s from) (is-header Traced r f g) (g .below) (λ z. h .roots from l);
+      written = λ r f x g.
+          word-sound Y s h (index Y (rootWord s r)) f x (is-header Untraced r f g) (g .below)
+          (λ z. never (ap isTraced z) (ap isTraced (g .kind-is)));
+    };
     placedNow = λ k n r a l e. place-sound Y law s h k n r l (leb-true (n + 1) (spare s) e);
     collectedNow = λ e. new-sound Y s h;
     placedThen = λ k n r e l f. place-sound Y law (collected Y s) (new-sound Y s h) k n r l (leb-true (n + 1) (spare (collected Y s)) f);

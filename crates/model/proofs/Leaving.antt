@@ -1,7 +1,7 @@
 -- What a session call leaves: a property that a state has, and that each change which a call can make
 -- keeps, holds of what any call leaves. One walk through the calls for every such property.
 use Prim.Native.Nat.{ℕ, _≤_, _<_}
-use mathlib.Core.Path.{_≡_}
+use mathlib.Core.Path.{_≡_, refl}
 use mathlib.Core.Bool.{Bool, true, false, not}
 use mathlib.Core.List.{List, [], _∷_}
 use lib.Dec.{leb}
@@ -21,15 +21,16 @@ use Rattle.model.specs.Admission.{noRoots, onRoots}
 use Rattle.model.specs.Changes.{noRoot, rootWord, withRoot, withWord, fits, placed}
 use Rattle.model.specs.Collection.{collected}
 use Rattle.model.specs.Headers.{Layout}
+use Rattle.model.specs.Laws.{changesRecord, RecordStays}
 use Rattle.model.specs.Limits.{maxFields}
 use Rattle.model.specs.Objects.{fieldIndex, index, kind, fieldCount, names}
-use Rattle.model.specs.Sessions.{step}
+use Rattle.model.specs.Sessions.{step, machine}
 use Rattle.model.specs.Shape.{badShape}
 use Rattle.model.specs.Soundness.{sound}
 use Rattle.model.specs.Values.{isOdd, isNull, inRange, tag}
 use Rattle.model.specs.Words.{State, at}
 use Rattle.model.proofs.Objects.{kind-same}
-use Rattle.model.proofs.Tests.{cond-holds, or-none}
+use Rattle.model.proofs.Tests.{cond-holds, or-none, never}
 
 -- root r is there and names an object of kind k that has a field f
 pub record HasField (Y : Layout) (s : State) (k : Kind) (r f : ℕ) : Type 0 where
@@ -38,9 +39,8 @@ pub record HasField (Y : Layout) (s : State) (k : Kind) (r f : ℕ) : Type 0 whe
   pub kind-is : kind Y (s .heap) (index Y (rootWord s r)) ≡ k
   pub below : f < fieldCount Y (s .heap) (index Y (rootWord s r))
 
--- the changes, each with what the call has tested before it
-pub record Kept (Y : Layout) (s : State) (P : State → Type 0) : Type 0 where
-  pub itself : P s
+-- the changes that leave the record, each with what the call has tested before it
+pub record Written (Y : Layout) (s : State) (P : State → Type 0) : Type 0 where
   pub integer : (r : ℕ) (v : ℤ) → inRange v ≡ true → P (withRoot s r (tag v))
   pub null : (r : ℕ) → P (withRoot s r 0)
   pub copied : (from to : ℕ) → from < length (s .roots) → P (withRoot s to (rootWord s from))
@@ -49,6 +49,10 @@ pub record Kept (Y : Layout) (s : State) (P : State → Type 0) : Type 0 where
   pub stored : (r f from : ℕ) → HasField Y s Traced r f → from < length (s .roots)
       → P (withWord s (fieldIndex (index Y (rootWord s r)) f) (rootWord s from))
   pub written : (r f x : ℕ) → HasField Y s Untraced r f → P (withWord s (fieldIndex (index Y (rootWord s r)) f) x)
+
+-- and those that do not
+pub record Kept (Y : Layout) (s : State) (P : State → Type 0) : Type 0 where
+  pub words : Written Y s P
   pub placedNow : (k : Kind) (n r : ℕ) → badShape s ≡ false → n ≤ maxFields → fits n s ≡ true → P (placed Y k n r s)
   pub collectedNow : sound Y s ≡ true → P (collected Y s)
   pub placedThen : (k : Kind) (n r : ℕ) → sound Y s ≡ true → n ≤ maxFields → fits n (collected Y s) ≡ true
@@ -57,19 +61,23 @@ pub record Kept (Y : Layout) (s : State) (P : State → Type 0) : Type 0 where
 data Leaves (P : State → Type 0) : Outcome State → Type 0 where
   leaves : {o : Outcome State} → P (o .left) → Leaves P o
 
+what-left : {P : State → Type 0} (o : Outcome State) → Leaves P o → P (o .left)
+what-left o (leaves p) = p
+
 refuse-leaves : (P : State → Type 0) (b : Bool) (k : Refusal) (s : State) (o : Outcome State) → P s
     → (b ≡ false → Leaves P o)
     → Leaves P (refuse b k s o)
 unfolding refuse
 refuse-leaves P b k s o p f = cond-holds (Leaves P) b _ o (λ e. leaves p) f
 
-module _ (Y : Layout) (s : State) (P : State → Type 0) (h : Kept Y s P) where
+-- of a state that has the property: a call that refuses leaves it
+module _ (Y : Layout) (s : State) (P : State → Type 0) (p : P s) where
   legal-root : (r : ℕ) → noRoot s r ≡ false → r < length (s .roots)
   legal-root r e = leb-false (length (s .roots)) r e
 
   -- a test that refuses and changes nothing
   after : (b : Bool) (k : Refusal) (o : Outcome State) → (b ≡ false → Leaves P o) → Leaves P (refuse b k s o)
-  after b k o f = refuse-leaves P b k s o (h .itself) f
+  after b k o f = refuse-leaves P b k s o p f
 
   on-roots : (named : List ℕ) (o : Outcome State)
       → (badShape s ≡ false → noRoots (length (s .roots)) named ≡ false → Leaves P o)
@@ -91,13 +99,47 @@ module _ (Y : Layout) (s : State) (P : State → Type 0) (h : Kept Y s P) where
         below = leb-false (fieldCount Y (s .heap) i) f c;
       }))))
 
-  step-leaves : (c : Call) → Leaves P (step Y c s)
-  unfolding step Calls.collect Calls.check Calls.allocate Calls.setInteger Calls.setNull Calls.copy Calls.load Calls.store
-      Calls.rawRead Calls.rawWrite Calls.same Calls.inspect
-  step-leaves Ask.Collect =
-      on-roots [] _ (λ a b. after _ Why.Damaged _ (λ c. leaves (h .collectedNow (not-false (sound Y s) c))))
-  step-leaves Ask.Check = on-roots [] _ (λ a b. leaves (h .itself))
-  step-leaves (Ask.Allocate k n r) =
+  inspect-leaves : (r : ℕ) → Leaves P (Calls.inspect Y r s)
+  unfolding Calls.inspect
+  inspect-leaves r =
+      on-roots (r ∷ []) _ (λ a b.
+      cond-holds (Leaves P) (isOdd (rootWord s r)) _ _ (λ c. leaves p) (λ c.
+      cond-holds (Leaves P) (isNull (rootWord s r)) _ _ (λ d. leaves p) (λ d.
+      after _ Why.Object _ (λ e. leaves p))))
+
+  written-leaves : Written Y s P → (c : Call) → changesRecord c ≡ false → Leaves P (step Y c s)
+  unfolding step Calls.check Calls.setInteger Calls.setNull Calls.copy Calls.load Calls.store Calls.rawRead Calls.rawWrite
+      Calls.same
+  written-leaves h Ask.Collect e = never refl e
+  written-leaves h (Ask.Allocate k n r) e = never refl e
+  written-leaves h Ask.Check e = on-roots [] _ (λ a b. leaves p)
+  written-leaves h (Ask.SetInteger r v) e =
+      on-roots (r ∷ []) _ (λ a b. after _ Why.Range _ (λ c. leaves (h .integer r v (not-false (inRange v) c))))
+  written-leaves h (Ask.SetNull r) e = on-roots (r ∷ []) _ (λ a b. leaves (h .null r))
+  written-leaves h (Ask.Copy from to) e =
+      on-roots (from ∷ to ∷ []) _
+      (λ a b. leaves (h .copied from to (legal-root from (or-none (noRoot s from) (noRoot s to) b .0))))
+  written-leaves h (Ask.Load r f to) e =
+      on-roots (r ∷ to ∷ []) _ (λ a b.
+      on-field Traced r f _ (legal-root r (or-none (noRoot s r) (noRoot s to) b .0)) (λ g. leaves (h .loaded r f to g)))
+  written-leaves h (Ask.Store r f from) e =
+      on-roots (r ∷ from ∷ []) _ (λ a b.
+      let c = or-none (noRoot s r) (noRoot s from) b in
+      on-field Traced r f _ (legal-root r (c .0)) (λ g. leaves (h .stored r f from g (legal-root from (c .1)))))
+  written-leaves h (Ask.RawRead r f) e =
+      on-roots (r ∷ []) _ (λ a b. on-field Untraced r f _ (legal-root r b) (λ g. leaves p))
+  written-leaves h (Ask.RawWrite r f x) e =
+      on-roots (r ∷ []) _ (λ a b. on-field Untraced r f _ (legal-root r b) (λ g. leaves (h .written r f x g)))
+  written-leaves h (Ask.Same r q) e = on-roots (r ∷ q ∷ []) _ (λ a b. leaves p)
+  written-leaves h (Ask.Inspect r) e = inspect-leaves r
+
+  collect-leaves : Kept Y s P → Leaves P (Calls.collect Y s)
+  unfolding Calls.collect
+  collect-leaves h = on-roots [] _ (λ a b. after _ Why.Damaged _ (λ c. leaves (h .collectedNow (not-false (sound Y s) c))))
+
+  allocate-leaves : Kept Y s P → (k : Kind) (n r : ℕ) → Leaves P (Calls.allocate Y k n r s)
+  unfolding Calls.allocate
+  allocate-leaves h k n r =
       on-roots (r ∷ []) _ (λ a b. after _ Why.Count _ (λ c.
       let small : n ≤ maxFields = ltb-false maxFields n c in
       cond-holds (Leaves P) (fits n s) _ _
@@ -106,32 +148,39 @@ module _ (Y : Layout) (s : State) (P : State → Type 0) (h : Kept Y s P) where
       let good = not-false (sound Y s) e in
       refuse-leaves P _ Why.Room (collected Y s) _ (h .collectedNow good) (λ f.
       leaves (h .placedThen k n r good small (not-false (fits n (collected Y s)) f)))))))
-  step-leaves (Ask.SetInteger r v) =
-      on-roots (r ∷ []) _ (λ a b. after _ Why.Range _ (λ c. leaves (h .integer r v (not-false (inRange v) c))))
-  step-leaves (Ask.SetNull r) = on-roots (r ∷ []) _ (λ a b. leaves (h .null r))
-  step-leaves (Ask.Copy from to) =
-      on-roots (from ∷ to ∷ []) _
-      (λ a b. leaves (h .copied from to (legal-root from (or-none (noRoot s from) (noRoot s to) b .0))))
-  step-leaves (Ask.Load r f to) =
-      on-roots (r ∷ to ∷ []) _ (λ a b.
-      on-field Traced r f _ (legal-root r (or-none (noRoot s r) (noRoot s to) b .0)) (λ g. leaves (h .loaded r f to g)))
-  step-leaves (Ask.Store r f from) =
-      on-roots (r ∷ from ∷ []) _ (λ a b.
-      let c = or-none (noRoot s r) (noRoot s from) b in
-      on-field Traced r f _ (legal-root r (c .0)) (λ g. leaves (h .stored r f from g (legal-root from (c .1)))))
-  step-leaves (Ask.RawRead r f) =
-      on-roots (r ∷ []) _ (λ a b. on-field Untraced r f _ (legal-root r b) (λ g. leaves (h .itself)))
-  step-leaves (Ask.RawWrite r f x) =
-      on-roots (r ∷ []) _ (λ a b. on-field Untraced r f _ (legal-root r b) (λ g. leaves (h .written r f x g)))
-  step-leaves (Ask.Same r q) = on-roots (r ∷ q ∷ []) _ (λ a b. leaves (h .itself))
-  step-leaves (Ask.Inspect r) =
-      on-roots (r ∷ []) _ (λ a b.
-      cond-holds (Leaves P) (isOdd (rootWord s r)) _ _ (λ c. leaves (h .itself)) (λ c.
-      cond-holds (Leaves P) (isNull (rootWord s r)) _ _ (λ d. leaves (h .itself)) (λ d.
-      after _ Why.Object _ (λ e. leaves (h .itself)))))
 
-  pub step-left : (c : Call) → P (step Y c s .left)
-  step-left c = go (step Y c s) (step-leaves c)
-    where
-      go : (o : Outcome State) → Leaves P o → P (o .left)
-      go o (leaves p) = p
+  step-leaves : Kept Y s P → (c : Call) → Leaves P (step Y c s)
+  unfolding step
+  step-leaves h Ask.Collect = collect-leaves h
+  step-leaves h (Ask.Allocate k n r) = allocate-leaves h k n r
+  step-leaves h Ask.Check = written-leaves (h .words) Ask.Check refl
+  step-leaves h (Ask.SetInteger r v) = written-leaves (h .words) (Ask.SetInteger r v) refl
+  step-leaves h (Ask.SetNull r) = written-leaves (h .words) (Ask.SetNull r) refl
+  step-leaves h (Ask.Copy p q) = written-leaves (h .words) (Ask.Copy p q) refl
+  step-leaves h (Ask.Load r f q) = written-leaves (h .words) (Ask.Load r f q) refl
+  step-leaves h (Ask.Store r f q) = written-leaves (h .words) (Ask.Store r f q) refl
+  step-leaves h (Ask.RawRead r f) = written-leaves (h .words) (Ask.RawRead r f) refl
+  step-leaves h (Ask.RawWrite r f x) = written-leaves (h .words) (Ask.RawWrite r f x) refl
+  step-leaves h (Ask.Same p q) = written-leaves (h .words) (Ask.Same p q) refl
+  step-leaves h (Ask.Inspect r) = written-leaves (h .words) (Ask.Inspect r) refl
+
+  pub step-left : Kept Y s P → (c : Call) → P (step Y c s .left)
+  step-left h c = what-left (step Y c s) (step-leaves h c)
+
+-- ---- what some calls leave alone
+
+pub record-stays : (Y : Layout) → RecordStays (machine Y)
+record-stays Y c s e =
+    what-left (step Y c s)
+    (written-leaves Y s (λ t. t .«record» ≡ s .«record») refl
+    (record {
+      integer = λ r v l. refl;
+      null = λ r. refl;
+      copied = λ from to l. refl;
+      loaded = λ r f to g. refl;
+      stored = λ r f from g l. refl;
+      written = λ r f x g. refl;
+    }) c e)
+
+pub inspect-stays : (Y : Layout) (r : ℕ) (s : State) → Calls.inspect Y r s .left ≡ s
+inspect-stays Y r s = what-left (Calls.inspect Y r s) (inspect-leaves Y s (λ t. t ≡ s) refl r)

@@ -179,17 +179,18 @@ module _ (Y : Layout) (s : State) (h : SoundTests Y s) where
       set-from (collected Y s .roots) r (address Y (free (collected Y s))) (new-roots Y s h) collected-from L.placedThen
 
   enters : (c : Call) → From (step Y c s .left)
-  enters = step-left Y s From (record {
-    itself = old;
-    integer = λ r v e. set-from (s .roots) r (tag v) refl old (L.integer v e);
-    null = λ r. set-from (s .roots) r 0 refl old L.null;
-    copied = λ from to l. set-from (s .roots) to (rootWord s from) refl old (L.oldRoot from l);
-    loaded = λ r f to g.
-        set-from (s .roots) to (at (s .heap) (fieldIndex (index Y (rootWord s r)) f)) refl old
-        (L.field (index Y (rootWord s r)) f (in-mem (index Y (rootWord s r)) (headers Y s)
-        (is-header Y s h Traced r f g)) (g .kind-is) (g .below));
-    stored = λ r f from g l. old;
-    written = λ r f x g. old;
+  enters = step-left Y s From old (record {
+    words = record {
+      integer = λ r v e. set-from (s .roots) r (tag v) refl old (L.integer v e);
+      null = λ r. set-from (s .roots) r 0 refl old L.null;
+      copied = λ from to l. set-from (s .roots) to (rootWord s from) refl old (L.oldRoot from l);
+      loaded = λ r f to g.
+          set-from (s .roots) to (at (s .heap) (fieldIndex (index Y (rootWord s r)) f)) refl old
+          (L.field (index Y (rootWord s r)) f (in-mem (index Y (rootWord s r)) (headers Y s)
+          (is-header Y s h Traced r f g)) (g .kind-is) (g .below));
+      stored = λ r f from g l. old;
+      written = λ r f x g. old;
+    };
     placedNow = λ k n r a l e. placed-from k n r;
     collectedNow = λ e. collected-from;
     placedThen = λ k n r e l f. placed-then k n r;

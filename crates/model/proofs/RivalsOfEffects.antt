@@ -1,4 +1,4 @@
--- Wrong machines that meet the demands' older sentences, and the field of Effects that each of them breaks.
+-- Wrong machines that meet the demands' older sentences, and the field of Effects, or the law of the record, that each breaks.
 use Prim.Native.Nat.{ℕ, _+_}
 use native.Mathlib.Omega.{arith}
 use mathlib.Core.Path.{_≡_, refl, ap}
@@ -16,10 +16,11 @@ use Rattle.model.specs.Conditions as C
 use Rattle.model.specs.Discovery.{mem}
 use Rattle.model.specs.Effects as E
 use Rattle.model.specs.Headers.{tuple}
+use Rattle.model.specs.Laws.{RecordStays}
 use Rattle.model.specs.Sessions.{step, Machine}
 use Rattle.model.specs.Shape.{badLength, badShapeOf, badShape}
 use Rattle.model.specs.Soundness.{tiles, headersFrom, isValue, fieldsAreValues, sound}
-use Rattle.model.specs.Words.{State, stateOf, withHeap, withRecord, withFree, halfWords, firstOf}
+use Rattle.model.specs.Words.{State, stateOf, withHeap, withRecord, withFree, halfWords, firstOf, free}
 use Rattle.model.specs.Worked as Worked
 use Rattle.model.proofs.Conditions.{roots-decide}
 use Rattle.model.proofs.Deciding.{length-decides, shape-decides}
@@ -38,6 +39,23 @@ pub restless-breaks-checkLeaves : E.Effects tuple restless → ⊥
 unfolding tuple step refuse Calls.check badShapeOf sound tiles headersFrom isValue fieldsAreValues mem copied
 restless-breaks-checkLeaves e =
     let z : _≡_ {A = ℕ} 2 1 = ap (λ t. firstOf 1 (t .«record» .half)) (e .checkLeaves p5 (check-passes p5 refl)) in
+    omega arith
+
+pub restless-breaks-record-stays : RecordStays restless → ⊥
+unfolding tuple step refuse Calls.check badShapeOf sound tiles headersFrom isValue fieldsAreValues mem copied
+restless-breaks-record-stays e =
+    let z : _≡_ {A = ℕ} 2 1 = ap (λ q. firstOf 1 (q .half)) (e Ask.Check p5 refl) in
+    omega arith
+
+-- ---- forgetful: where it refuses, it leaves the record of an empty heap
+
+abbrev pub forgetful : Machine
+forgetful = changed (λ c s o. cond (isRefusal (o .answer)) (says (o .answer) (withRecord Calls.freshRecord (o .left))) o)
+
+pub forgetful-breaks-record-stays : RecordStays forgetful → ⊥
+unfolding tuple step refuse Calls.setNull badShapeOf
+forgetful-breaks-record-stays e =
+    let z : _≡_ {A = ℕ} 1 (free p5) = ap (λ q. q .free .0) (e (Ask.SetNull (length (p5 .roots))) p5 refl) in
     omega arith
 
 -- ---- careless: on a heap that is not sound it answers "sound" and clears all words and roots

@@ -1,9 +1,9 @@
--- Further laws, as types: what a window shows, integers and headers written and read back, lengths, that answers in numbers can
--- be told apart, and that a promise settles everything.
+-- Further laws, as types: the record that most calls leave alone, what a window shows, integers and headers written and read
+-- back, lengths, that answers in numbers can be told apart, and that a promise settles everything.
 use Prim.Native.Nat.{ℕ, _*_, _%_, _≤_, _<_}
 use mathlib.Core.Path.{_≡_}
 use mathlib.Core.Logic.{_↔_}
-use mathlib.Core.Bool.{true}
+use mathlib.Core.Bool.{Bool, true, false}
 use mathlib.Core.List.{List, []}
 use lib.ListN.{length}
 use lib.IntN.{ℤ, pos, _+ℤ_, _*ℤ_}
@@ -14,6 +14,7 @@ use Rattle.model.specs.declared.Refusal.the-variants as Why
 use Rattle.model.specs.declared.Answer.the-variants as Says
 use Rattle.model.specs.declared.Answered.{Answered}
 use Rattle.model.specs.declared.Call.{Call}
+use Rattle.model.specs.declared.Call.the-variants as Ask
 use Rattle.model.specs.declared.Place.{Place}
 use Rattle.model.specs.declared.Place.the-variants as Place
 use Rattle.model.specs.Limits.{maxFields}
@@ -25,6 +26,27 @@ use Rattle.model.specs.Answers.{Outcome, outcomeOf, told}
 use Rattle.model.specs.Changes.{rootWord}
 use Rattle.model.specs.Window.{window, shown, windowCount, windowWord}
 use Rattle.model.specs.Sessions.{Machine}
+
+-- ---- the record
+
+-- the calls that may leave another record than they were given
+abbrev pub changesRecord : Call → Bool
+changesRecord Ask.Collect = true
+changesRecord Ask.Check = false
+changesRecord (Ask.Allocate kind fields to) = true
+changesRecord (Ask.SetInteger to value) = false
+changesRecord (Ask.SetNull to) = false
+changesRecord (Ask.Copy from to) = false
+changesRecord (Ask.Load object field to) = false
+changesRecord (Ask.Store object field from) = false
+changesRecord (Ask.RawRead object field) = false
+changesRecord (Ask.RawWrite object field number) = false
+changesRecord (Ask.Same one other) = false
+changesRecord (Ask.Inspect root) = false
+
+-- every other leaves it as it was, refused or not: a host that keeps its own has the one that the next call wants
+abbrev pub RecordStays : Machine → Type 0
+RecordStays M = (c : Call) (s : State) → changesRecord c ≡ false → M .step c s .left .«record» ≡ s .«record»
 
 -- ---- the window
 

@@ -1,12 +1,13 @@
 -- An object that a word names lies in the heap: what SHAPE and the test of the name say of its words.
-use Prim.Native.Nat.{ℕ, _+_, _≤_, _<_, _%_}
+use Prim.Native.Nat.{ℕ, suc, _+_, _-_, _≤_, _<_, _%_}
 use native.Mathlib.Omega.{arith}
-use mathlib.Core.Path.{_≡_, sym}
-use mathlib.Core.Bool.{Bool, true, false, not, cond, _&&_}
+use mathlib.Core.Path.{_≡_, sym, _∙_}
+use mathlib.Core.Logic.{⊎-elim}
+use mathlib.Core.Bool.{Bool, true, false, not, cond, _&&_, and-false, and-assoc}
 use mathlib.Core.List.{List}
 use lib.Dec.{ltb, leb, eqb}
 use lib.ListN.{length}
-use borrow.Author.Tests.{leb-true}
+use borrow.Author.Tests.{leb-true, eqb-true, eq-eqb, ne-eqb}
 use Rattle.model.specs.declared.Kind.{Kind}
 use Rattle.model.specs.declared.Record.{Record}
 use Rattle.model.specs.declared.Refusal.the-variants as Why
@@ -15,9 +16,10 @@ use Rattle.model.specs.Values.{isAddress}
 use Rattle.model.specs.Headers.{Layout}
 use Rattle.model.specs.Objects.{index, size, kind, fieldCount, fieldIndex, names}
 use Rattle.model.specs.Shape.{badShape}
-use Rattle.model.proofs.Tests.{and-both}
+use Rattle.model.proofs.Tests.{by-test, and-both}
 use Rattle.model.proofs.Shape.{shaped, first-in}
 use Rattle.model.specs.Calls.{isOfKind}
+use Rattle.words.proofs.ShapeTests.{same-test}
 use Rattle.naming.specs.declared.Field.the-variants.{At, Refused}
 use Rattle.naming.specs.Named.{FreeInHeap, fieldOf}
 
@@ -25,15 +27,40 @@ pub free-in-heap : (s : State) → badShape s ≡ false → FreeInHeap (s .heap)
 free-in-heap s h =
     let g = shaped s h in
     let f = first-in s g in
-    record { least = omega arith; within = omega arith; most = omega arith }
+    record { least = f .0; begins = g .low; within = omega arith; most = omega arith }
 
 module _ (Y : Layout) where
-  -- the name by its six tests, whatever each comes to, at the index and the half's first word as the code has them
-  pub names-tests : {a b c d h l : Bool} (s : State) (w i first : ℕ) → i ≡ index Y w → first ≡ firstWord s
-      → isAddress w ≡ a → eqb (w % 4) 0 ≡ b → leb first i ≡ c → ltb i (free s) ≡ d → Y .isHeader (at (s .heap) i) ≡ h
-      → leb (i + size Y (s .heap) i) (free s) ≡ l → (a && b && c && d && h && l) ≡ names Y s w
+  -- a multiple of 4 whose index is not below 1 is even and not 0
+  needless : (w i first : ℕ) → i ≡ index Y w → 1 ≤ first
+      → (isAddress w && eqb (w % 4) 0 && leb first i) ≡ (eqb (w % 4) 0 && leb first i)
+  needless w i first e l =
+      ⊎-elim
+      (λ (a : (eqb (w % 4) 0 && leb first i) ≡ true).
+      let b = and-both (eqb (w % 4) 0) (leb first i) a in
+      let multiple : w % 4 ≡ 0 = eqb-true (w % 4) 0 (b .0) in
+      let above : first ≤ i = leb-true first i (b .1) in
+      rw (eq-eqb (w % 2) 0 (omega arith), ne-eqb w 0 (λ z. omega arith)))
+      (λ (a : (eqb (w % 4) 0 && leb first i) ≡ false).
+      and-assoc (isAddress w) (eqb (w % 4) 0) (leb first i) ∙ rw a (and-false (isAddress w)))
+      (by-test (eqb (w % 4) 0 && leb first i))
+
+  -- the name by four tests, whatever each comes to, at the index and the half's first word as the code has them
+  pub names-tests : {b c h l : Bool} (s : State) (w i first : ℕ) → FreeInHeap (s .heap) (s .«record»)
+      → i ≡ index Y w → first ≡ firstWord s → eqb (w % 4) 0 ≡ b → (leb first i && ltb i (first + (free s - first))) ≡ c
+      → Y .isHeader (at (s .heap) i) ≡ h → ltb (fieldCount Y (s .heap) i) (free s - i) ≡ l → (b && c && h && l) ≡ names Y s w
   unfolding names
-  names-tests s w i first e f pa pb pc pd ph pl = simp (sym e, sym f, pa, pb, pc, pd, ph, pl)
+  names-tests s w i first g e f pb pc ph pl =
+      let n = fieldCount Y (s .heap) i in
+      let end : first + (free s - first) ≡ free s = omega (arith, g, f) in
+      simp (sym e, sym f) (
+      rw (
+        needless w i first e (omega (arith, g, f)),
+        and-assoc (eqb (w % 4) 0) (leb first i) (ltb i (free s)),
+        rw end at pc,
+        pb,
+        ph,
+        same-test (i + (n + 1)) (free s) (suc n) (free s - i) (λ k. omega arith) (λ k. omega arith) ∙ pl,
+      ))
 
   pub named-ends : (s : State) (w : ℕ) → names Y s w ≡ true → index Y w + size Y (s .heap) (index Y w) ≤ free s
   unfolding names

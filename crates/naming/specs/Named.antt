@@ -9,16 +9,18 @@ use Rattle.model.specs.declared.Kind.{Kind}
 use Rattle.model.specs.declared.Record.{Record}
 use Rattle.model.specs.declared.Refusal.the-variants as Why
 use Rattle.model.specs.Limits.{maxWords}
-use Rattle.model.specs.Words.{State}
+use Rattle.model.specs.Words.{State, halfWords, firstOf}
 use Rattle.model.specs.Headers.{Layout}
 use Rattle.model.specs.Objects.{index, kind, fieldCount, fieldIndex, names}
 use Rattle.model.specs.Calls.{isOfKind}
 use Rattle.naming.specs.declared.Field.{Field}
 use Rattle.naming.specs.declared.Field.the-variants.{At, Refused}
 
--- what SHAPE leaves for a test of heap words: each index below the free one is that of a word
+-- what SHAPE leaves for a test of heap words: the used part begins past the reserved word, and each index below the free one
+-- is that of a word
 pub record FreeInHeap (H : List ℕ) (q : Record) : Type 0 where
-  pub least : 1 ≤ q .free .0
+  pub least : 1 ≤ firstOf (halfWords H) (q .half)
+  pub begins : firstOf (halfWords H) (q .half) ≤ q .free .0
   pub within : q .free .0 ≤ length H
   pub most : length H ≤ maxWords
 

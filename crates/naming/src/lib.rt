@@ -14,18 +14,16 @@ use model::Record;
 use model::Refusal;
 use words::shape::first_of;
 use words::shape::half_words;
+use words::shape::in_run;
 use words::tuple::Tuple;
-use words::tuple::is_address;
 
-// Whether a word names an object. It looks at the word there only once that lies in the used part.
+// Whether a word names an object. It looks at the word there only once that lies in the used part. That the
+// word is even and not 0 needs no test: it is a multiple of 4, and no used part begins at word 0.
 pub fn names(heap: &[u32], record: Record, word: u32) -> bool
     requires { ⌜ FreeInHeap (now heap) «record» ⌝ }
     ensures { λ r. ⌜ ((R : List ℕ) → r
         ≡ Objects.names Layouts.tuple (stateOf (now (heap .entry)) R «record») word) ⌝ }
 {
-    if !is_address(word) {
-        return false;
-    }
     if word % 4 != 0 {
         return false;
     }
@@ -33,17 +31,14 @@ pub fn names(heap: &[u32], record: Record, word: u32) -> bool
     let free = record.free.0;
     let first = first_of(half_words(heap.len()), half).0;
     let at = Tuple::index_of(Address(word)).0;
-    if at < first {
-        return false;
-    }
-    if free <= at {
+    if !in_run(at, first, free - first) {
         return false;
     }
     let header = heap[at];
     if !Tuple::is_header(header) {
         return false;
     }
-    at + (Tuple::count_of(header) + 1) <= free
+    Tuple::count_of(header) < free - at
 }
 
 // The index of a field's word, or why there is none.

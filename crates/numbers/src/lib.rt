@@ -23,7 +23,9 @@ pub fn number(refusal: Refusal) -> u32
     }
 }
 
-fn tells(refusal: u32, holds: u32, value: u32) -> Told
+// Numbers put together, of an answer that is no integer: the refusal's or 0, what the root of an inspect
+// holds, and the number that the answer carries.
+pub fn tells(refusal: u32, holds: u32, value: u32) -> Told
     ensures { λ r. ⌜ r ≡ Answers.tells refusal holds value ⌝ }
 {
     Told {
@@ -34,7 +36,8 @@ fn tells(refusal: u32, holds: u32, value: u32) -> Told
     }
 }
 
-fn integer(value: i32) -> Told
+// The numbers of a root that holds an integer.
+pub fn integer(value: i32) -> Told
     ensures { λ r. ⌜ r ≡ Answers.told (Says.Integer value) ⌝ }
 {
     Told {
@@ -45,7 +48,8 @@ fn integer(value: i32) -> Told
     }
 }
 
-fn object(kind: Kind, fields: u32) -> Told
+// The numbers of a root that holds an object, of its kind and field count.
+pub fn object(kind: Kind, fields: u32) -> Told
     ensures { λ r. ⌜ r ≡ Answers.told (Says.Object kind fields) ⌝ }
 {
     match kind {

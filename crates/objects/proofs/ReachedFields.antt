@@ -125,10 +125,13 @@ module _ (Y : Layout) where
 
     -- a call that goes by it: the field is known, or the refusal
     module _ {o : Outcome State} (next : ℕ → Outcome State) (c : o ≡ answered (reached Y k r f q s) s next) where
+      by-answer : {y : Field} → x ≡ y → answered y s next ≡ o
+      by-answer g = sym (c ∙ ap (λ (x : Field). answered x s next) (sym answer-is ∙ g))
+
       pub by-field : {i : Index} → x ≡ At i → next (i .0) ≡ o
       unfolding answered
-      by-field g = sym (c ∙ ap (λ (x : Field). answered x s next) (sym answer-is ∙ g))
+      by-field g = by-answer g
 
       pub by-refusal : {why : Refusal} → x ≡ Refused why → says (Says.Refused why) s ≡ o
       unfolding answered
-      by-refusal g = sym (c ∙ ap (λ (x : Field). answered x s next) (sym answer-is ∙ g))
+      by-refusal g = by-answer g

@@ -3,14 +3,12 @@
 ghost use mathlib.Core.Path.{_≡_};
 ghost use Rattle.model.specs.Headers as Layouts;
 ghost use Rattle.model.specs.Calls as Calls;
-ghost use Rattle.crossing.specs.Numbers as Numbers;
-ghost use Rattle.crossing.specs.Exports.{given, called};
+ghost use Rattle.crossing.specs.Numbers.{answerOf, keeping};
+ghost use Rattle.crossing.specs.Exports.{kept, called};
 use crossing::CAnswer;
 use crossing::CRecord;
-use crossing::CResult;
 use crossing::answer_of;
 use crossing::record_of;
-use crossing::result_of;
 
 // Root `to` gets the word in a field of a traced object.
 #[no_mangle]
@@ -21,12 +19,13 @@ pub extern "C" fn phachunoi_load(
     object: usize,
     field: usize,
     to: usize,
-) -> CResult
-    ensures { λ r. ⌜ given r heap roots
-        ≡ called Numbers.resultOf (Calls.load Layouts.tuple object field to) heap roots «record» ⌝ }
+) -> CAnswer
+    ensures { λ r. ⌜ kept r heap roots «record»
+        ≡ called (keeping answerOf) (Calls.load Layouts.tuple object field to) heap roots «record» ⌝ }
 {
     let done = objects::load(heap, roots, record_of(record), object, field, to);
-    result_of(record, done)
+    let said = done.answer;
+    answer_of(said)
 }
 
 // A field of a traced object gets root `from`'s word.
@@ -38,12 +37,13 @@ pub extern "C" fn phachunoi_store(
     object: usize,
     field: usize,
     from: usize,
-) -> CResult
-    ensures { λ r. ⌜ given r heap roots
-        ≡ called Numbers.resultOf (Calls.store Layouts.tuple object field from) heap roots «record» ⌝ }
+) -> CAnswer
+    ensures { λ r. ⌜ kept r heap roots «record»
+        ≡ called (keeping answerOf) (Calls.store Layouts.tuple object field from) heap roots «record» ⌝ }
 {
     let done = objects::store(heap, roots, record_of(record), object, field, from);
-    result_of(record, done)
+    let said = done.answer;
+    answer_of(said)
 }
 
 // The raw word in a field of an untraced object.
@@ -55,9 +55,8 @@ pub extern "C" fn phachunoi_raw_read(
     object: usize,
     field: usize,
 ) -> CAnswer
-    ensures { λ r. ⌜ given r heap roots
-        ≡ called (λ t c. Numbers.answerOf t)
-        (Calls.rawRead Layouts.tuple object field) heap roots «record» ⌝ }
+    ensures { λ r. ⌜ kept r heap roots «record»
+        ≡ called (keeping answerOf) (Calls.rawRead Layouts.tuple object field) heap roots «record» ⌝ }
 {
     let done = objects::raw_read(heap, roots, record_of(record), object, field);
     let said = done.answer;
@@ -73,10 +72,11 @@ pub extern "C" fn phachunoi_raw_write(
     object: usize,
     field: usize,
     number: u32,
-) -> CResult
-    ensures { λ r. ⌜ given r heap roots
-        ≡ called Numbers.resultOf (Calls.rawWrite Layouts.tuple object field number) heap roots «record» ⌝ }
+) -> CAnswer
+    ensures { λ r. ⌜ kept r heap roots «record»
+        ≡ called (keeping answerOf) (Calls.rawWrite Layouts.tuple object field number) heap roots «record» ⌝ }
 {
     let done = objects::raw_write(heap, roots, record_of(record), object, field, number);
-    result_of(record, done)
+    let said = done.answer;
+    answer_of(said)
 }

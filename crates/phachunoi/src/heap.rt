@@ -5,11 +5,13 @@ ghost use Rattle.model.specs.declared.Kind.the-variants.{Traced, Untraced};
 ghost use Rattle.model.specs.Headers as Layouts;
 ghost use Rattle.model.specs.Calls as Calls;
 ghost use Rattle.crossing.specs.Numbers as Numbers;
-ghost use Rattle.crossing.specs.Numbers.{givenOf, begun};
-ghost use Rattle.crossing.specs.Exports.{given, called};
+ghost use Rattle.crossing.specs.Numbers.{answerOf, keeping, givenOf, begun};
+ghost use Rattle.crossing.specs.Exports.{given, kept, called};
+use crossing::CAnswer;
 use crossing::CCollected;
 use crossing::CRecord;
 use crossing::CResult;
+use crossing::answer_of;
 use crossing::collected_of;
 use crossing::done_with;
 use crossing::fresh_result_of;
@@ -31,12 +33,13 @@ pub extern "C" fn phachunoi_fresh(heap: &mut [u32], record: CRecord) -> CResult
 // Value 1 where the heap is sound, 0 where not; or SHAPE. It marks in the idle half, and no word differs
 // afterwards.
 #[no_mangle]
-pub extern "C" fn phachunoi_check(heap: &mut [u32], roots: &[u32], record: CRecord) -> CResult
-    ensures { λ r. ⌜ given r heap roots
-        ≡ called Numbers.resultOf (Calls.check Layouts.tuple) heap roots «record» ⌝ }
+pub extern "C" fn phachunoi_check(heap: &mut [u32], roots: &[u32], record: CRecord) -> CAnswer
+    ensures { λ r. ⌜ kept r heap roots «record»
+        ≡ called (keeping answerOf) (Calls.check Layouts.tuple) heap roots «record» ⌝ }
 {
     let done = checker::check(heap, roots, record_of(record));
-    result_of(record, done)
+    let said = done.answer;
+    answer_of(said)
 }
 
 // The live words; or SHAPE or DAMAGED. Every object may move.
@@ -51,6 +54,23 @@ pub extern "C" fn phachunoi_collect(
 {
     let done = collector::collect(heap, roots, record_of(record));
     collected_of(record, done)
+}
+
+// An allocation by the whole call. It stands by itself, so that the one which is done at once saves no
+// register for it.
+fn allocate(
+    heap: &mut [u32],
+    roots: &mut [u32],
+    record: CRecord,
+    kind: Kind,
+    fields: usize,
+    to: usize,
+) -> CResult
+    ensures { λ r. ⌜ given r heap roots
+        ≡ called Numbers.resultOf (Calls.allocate Layouts.tuple kind fields to) heap roots «record» ⌝ }
+{
+    let done = allocator::allocate(heap, roots, record_of(record), kind, fields, to);
+    result_of(record, done)
 }
 
 // Root `to` gets a new object of values, all null; or SHAPE, ROOT, COUNT, DAMAGED or ROOM. Every object may
@@ -70,8 +90,7 @@ pub extern "C" fn phachunoi_allocate_traced(
     if placing::at_once::fits(heap.len(), roots.len(), taken, fields, to) {
         return done_with(placing::at_once::allocate(heap, roots, taken, Kind::Traced, fields, to));
     }
-    let done = allocator::allocate(heap, roots, record_of(record), Kind::Traced, fields, to);
-    result_of(record, done)
+    allocate(heap, roots, record, Kind::Traced, fields, to)
 }
 
 // The same of an object of raw words, all 0.
@@ -97,6 +116,5 @@ pub extern "C" fn phachunoi_allocate_untraced(
             to,
         ));
     }
-    let done = allocator::allocate(heap, roots, record_of(record), Kind::Untraced, fields, to);
-    result_of(record, done)
+    allocate(heap, roots, record, Kind::Untraced, fields, to)
 }

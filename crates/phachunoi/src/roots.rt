@@ -2,15 +2,13 @@
 ghost use mathlib.Core.Path.{_≡_};
 ghost use Rattle.model.specs.Headers as Layouts;
 ghost use Rattle.model.specs.Calls as Calls;
-ghost use Rattle.crossing.specs.Numbers as Numbers;
-ghost use Rattle.crossing.specs.Exports.{given, called};
+ghost use Rattle.crossing.specs.Numbers.{answerOf, seenOf, keeping};
+ghost use Rattle.crossing.specs.Exports.{kept, called};
 use crossing::CAnswer;
 use crossing::CRecord;
-use crossing::CResult;
 use crossing::CSeen;
 use crossing::answer_of;
 use crossing::record_of;
-use crossing::result_of;
 use crossing::seen_of;
 
 // Root `to` gets an integer; or SHAPE, ROOT or RANGE.
@@ -21,12 +19,13 @@ pub extern "C" fn phachunoi_set_integer(
     record: CRecord,
     to: usize,
     value: i64,
-) -> CResult
-    ensures { λ r. ⌜ given r heap roots
-        ≡ called Numbers.resultOf (Calls.setInteger to value) heap roots «record» ⌝ }
+) -> CAnswer
+    ensures { λ r. ⌜ kept r heap roots «record»
+        ≡ called (keeping answerOf) (Calls.setInteger to value) heap roots «record» ⌝ }
 {
     let done = blind::set_integer(heap, roots, record_of(record), to, value);
-    result_of(record, done)
+    let said = done.answer;
+    answer_of(said)
 }
 
 // Root `to` gets null; or SHAPE or ROOT.
@@ -36,11 +35,13 @@ pub extern "C" fn phachunoi_set_null(
     roots: &mut [u32],
     record: CRecord,
     to: usize,
-) -> CResult
-    ensures { λ r. ⌜ given r heap roots ≡ called Numbers.resultOf (Calls.setNull to) heap roots «record» ⌝ }
+) -> CAnswer
+    ensures { λ r. ⌜ kept r heap roots «record»
+        ≡ called (keeping answerOf) (Calls.setNull to) heap roots «record» ⌝ }
 {
     let done = blind::set_null(heap, roots, record_of(record), to);
-    result_of(record, done)
+    let said = done.answer;
+    answer_of(said)
 }
 
 // Root `to` gets root `from`'s word; or SHAPE or ROOT.
@@ -51,11 +52,13 @@ pub extern "C" fn phachunoi_copy(
     record: CRecord,
     from: usize,
     to: usize,
-) -> CResult
-    ensures { λ r. ⌜ given r heap roots ≡ called Numbers.resultOf (Calls.copy from to) heap roots «record» ⌝ }
+) -> CAnswer
+    ensures { λ r. ⌜ kept r heap roots «record»
+        ≡ called (keeping answerOf) (Calls.copy from to) heap roots «record» ⌝ }
 {
     let done = blind::copy(heap, roots, record_of(record), from, to);
-    result_of(record, done)
+    let said = done.answer;
+    answer_of(said)
 }
 
 // Value 1 where two roots hold equal words, 0 where not; or SHAPE or ROOT.
@@ -67,8 +70,8 @@ pub extern "C" fn phachunoi_same(
     one: usize,
     other: usize,
 ) -> CAnswer
-    ensures { λ r. ⌜ given r heap roots
-        ≡ called (λ t c. Numbers.answerOf t) (Calls.same one other) heap roots «record» ⌝ }
+    ensures { λ r. ⌜ kept r heap roots «record»
+        ≡ called (keeping answerOf) (Calls.same one other) heap roots «record» ⌝ }
 {
     let done = blind::same(heap, roots, record_of(record), one, other);
     let said = done.answer;
@@ -83,10 +86,9 @@ pub extern "C" fn phachunoi_inspect(
     record: CRecord,
     root: usize,
 ) -> CSeen
-    ensures { λ r. ⌜ given r heap roots
-        ≡ called (λ t c. Numbers.seenOf t) (Calls.inspect Layouts.tuple root) heap roots «record» ⌝ }
+    ensures { λ r. ⌜ kept r heap roots «record»
+        ≡ called (keeping seenOf) (Calls.inspect Layouts.tuple root) heap roots «record» ⌝ }
 {
-    let done = views::inspect(heap, roots, record_of(record), root);
-    let said = done.answer;
-    seen_of(said)
+    let told = views::tell(heap, roots, record_of(record), root);
+    seen_of(told)
 }

@@ -43,8 +43,9 @@ pub fn place(
     let free = record.free;
     let at = free.0;
     heap[at] = Tuple::header(kind, fields);
-    runs::clear(heap, at + 1, fields);
+    // The root first: fewer values are then kept across the clearing.
     roots[to] = Tuple::address_of(free).0;
+    runs::clear(heap, at + 1, fields);
     Record {
         half,
         free: Index(at + (fields + 1)),

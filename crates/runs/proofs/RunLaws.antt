@@ -9,13 +9,13 @@ use mathlib.Core.List.{List, [], _∷_, _++_}
 use lib.Bits.{bitOr, or-add-and, and-le-l, and-le-r, or-zero-l}
 use lib.Dec.{eqb}
 use lib.ListN.{length, drop, set, replicate, length-set}
-use lib.Seq.{getD-set-same, getD-set-other, sets, drop-cons, take-add, drop-drop}
+use lib.Seq.{getD-set-same, getD-set-other, set-getD, sets, drop-cons, take-add, drop-drop}
 use borrow.Author.Tests.{ne-eqb}
 use Rattle.model.specs.Words.{at}
 use Rattle.model.specs.Values.{isNull}
 use Rattle.model.specs.Soundness.{all}
 use Rattle.model.proofs.Tests.{same?}
-use Rattle.runs.specs.Runs.{run, cleared, copiedRun}
+use Rattle.runs.specs.Runs.{run, cleared, copiedRun, Apart}
 
 -- ---- what lies outside a run
 
@@ -29,15 +29,16 @@ outside-last from n k o e = ⊎-elim (λ l. omega arith) (λ l. omega arith) o
 outside-less : (from n k : ℕ) → Outside from (suc n) k → Outside from n k
 outside-less from n k o = ⊎-elim (λ l. inl l) (λ l. inr (omega arith)) o
 
--- two runs of n words that share none
-abbrev pub Apart : ℕ → ℕ → ℕ → Type 0
-Apart from to n = (from + n ≤ to) ⊎ (to + n ≤ from)
+-- ---- runs apart
 
-apart-less : (from to n : ℕ) → Apart from to (suc n) → Apart from to n
-apart-less from to n o = ⊎-elim (λ l. inl (omega arith)) (λ l. inr (omega arith)) o
+pub apart-less : (from to m n : ℕ) → m ≤ n → Apart from to n → Apart from to m
+apart-less from to m n l o = ⊎-elim (λ a. inl (omega arith)) (λ a. inr (omega arith)) o
 
-apart-outside : (from to n : ℕ) → Apart from to (suc n) → Outside to n (from + n)
-apart-outside from to n o = ⊎-elim (λ l. inl (omega arith)) (λ l. inr (omega arith)) o
+pub apart-part : (from to i k n : ℕ) → i + k ≤ n → Apart from to n → Apart (from + i) (to + i) k
+apart-part from to i k n l o = ⊎-elim (λ a. inl (omega arith)) (λ a. inr (omega arith)) o
+
+apart-outside : (from to i n j : ℕ) → i ≤ n → j < n → Apart from to n → Outside to i (from + j)
+apart-outside from to i n j l b o = ⊎-elim (λ a. inl (omega arith)) (λ a. inr (omega arith)) o
 
 -- ---- cleared
 
@@ -101,11 +102,75 @@ copied-inside h from to (suc n) j o a b =
     ⊎-elim
     (λ (e : j ≡ n).
     rw e (getD-set-same (copiedRun h from to n) (to + n) _ 0 (omega arith)
-    ∙ copied-outside h from to n (from + n) (apart-outside from to n o)))
+    ∙ copied-outside h from to n (from + n) (apart-outside from to n (suc n) n (omega arith) (omega arith) o)))
     (λ (e : j ≡ n → ⊥).
     getD-set-other (copiedRun h from to n) (to + n) (to + j) _ 0 (λ z. e (omega arith))
-    ∙ copied-inside h from to n j (apart-less from to n o) (omega arith) (omega arith))
+    ∙ copied-inside h from to n j (apart-less from to n (suc n) (omega arith) o) (omega arith) (omega arith))
     (same? j n)
+
+-- one word more, read before any was written
+copied-read : (h : List ℕ) (from to n : ℕ) → Apart from to (suc n)
+    → set (copiedRun h from to n) (to + n) (at h (from + n)) ≡ copiedRun h from to (suc n)
+unfolding copiedRun
+copied-read h from to n o =
+    ap (set (copiedRun h from to n) (to + n))
+    (sym (copied-outside h from to n (from + n) (apart-outside from to n (suc n) n (omega arith) (omega arith) o)))
+
+pub copied-four : (h : List ℕ) (from to : ℕ) → Apart from to 4
+    → set (set (set (set h to (at h from)) (to + 1) (at h (from + 1))) (to + 2) (at h (from + 2)))
+    (to + 3) (at h (from + 3)) ≡ copiedRun h from to 4
+unfolding copiedRun
+copied-four h from to o =
+    let first : set h to (at h from) ≡ copiedRun h from to 1 = simp add-zero in
+    rw (
+      first,
+      copied-read h from to 1 (apart-less from to 2 4 (omega arith) o),
+      copied-read h from to 2 (apart-less from to 3 4 (omega arith) o),
+      copied-read h from to 3 o,
+    )
+
+-- a word that is copied stands in both runs
+copied-both : (h : List ℕ) (from to i j : ℕ) → Apart from to i → to + i ≤ length h → j < i
+    → at (copiedRun h from to i) (from + j) ≡ at (copiedRun h from to i) (to + j)
+copied-both h from to i j o l b =
+    copied-outside h from to i (from + j) (apart-outside from to i i j (omega arith) b o)
+    ∙ sym (copied-inside h from to i j o l b)
+
+-- words that are copied may be copied again
+copied-there : (h : List ℕ) (from to i m k : ℕ) → Apart from to i → to + i ≤ length h → m + k ≤ i
+    → copiedRun (copiedRun h from to i) (from + m) (to + m) k ≡ copiedRun h from to i
+unfolding copiedRun
+copied-there h from to i m zero o l b = refl
+copied-there h from to i m (suc k) o l b =
+    let f : from + m + k ≡ from + (m + k) = omega arith in
+    let t : to + m + k ≡ to + (m + k) = omega arith in
+    rw (copied-there h from to i m k o l (omega arith), f, t, copied-both h from to i (m + k) o l (omega arith))
+    (set-getD (copiedRun h from to i) (to + (m + k)) 0)
+
+-- the last k words of n, of which i are copied
+copied-again : (h : List ℕ) (from to i m k n : ℕ) → Apart from to n → to + n ≤ length h → m ≤ i → i ≤ n → m + k ≡ n
+    → copiedRun (copiedRun h from to i) (from + m) (to + m) k ≡ copiedRun h from to n
+unfolding copiedRun
+copied-again h from to i m zero n o l a b e = let q : i ≡ n = omega arith in ap (copiedRun h from to) q
+copied-again h from to i m (suc k) zero o l a b e = absurd (omega arith)
+copied-again h from to i m (suc k) (suc n) o l a b e =
+    ⊎-elim
+    (λ (q : i ≡ suc n).
+    copied-there h from to i m (suc k) (apart-less from to i (suc n) b o) (omega arith) (omega arith)
+    ∙ ap (copiedRun h from to) q)
+    (λ (q : i ≡ suc n → ⊥).
+    let less : Apart from to n = apart-less from to n (suc n) (omega arith) o in
+    let f : from + m + k ≡ from + n = omega arith in
+    let t : to + m + k ≡ to + n = omega arith in
+    rw (copied-again h from to i m k n less (omega arith) a (omega arith) (omega arith), f, t))
+    (same? i (suc n))
+
+-- from what two calls leave, the second of the last k words
+pub copied-parts : (h h₁ h₂ : List ℕ) (from to i m k n : ℕ)
+    → h₁ ≡ copiedRun h from to i → h₂ ≡ copiedRun h₁ (from + m) (to + m) k
+    → Apart from to n → to + n ≤ length h → m ≤ i → i ≤ n → m + k ≡ n → h₂ ≡ copiedRun h from to n
+copied-parts h h₁ h₂ from to i m k n p q o l a b e =
+    q ∙ ap (λ (x : List ℕ). copiedRun x (from + m) (to + m) k) p ∙ copied-again h from to i m k n o l a b e
 
 -- the first word may be stored by itself
 pub copied-front : (h : List ℕ) (from to n : ℕ)

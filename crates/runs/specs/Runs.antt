@@ -1,5 +1,6 @@
 -- Runs of words in a list: read, cleared and copied by stores one after the other.
-use Prim.Native.Nat.{ℕ, zero, suc, _+_}
+use Prim.Native.Nat.{ℕ, zero, suc, _+_, _≤_}
+use mathlib.Core.Logic.{_⊎_}
 use mathlib.Core.List.{List}
 use lib.ListN.{take, drop, set}
 use Rattle.model.specs.Words.{at}
@@ -17,3 +18,7 @@ cleared h from (suc n) = set (cleared h from n) (from + n) 0
 unfoldable pub copiedRun : List ℕ → ℕ → ℕ → ℕ → List ℕ
 copiedRun h from to zero = h
 copiedRun h from to (suc n) = set (copiedRun h from to n) (to + n) (at (copiedRun h from to n) (from + n))
+
+-- two runs of n words that share none
+abbrev pub Apart : ℕ → ℕ → ℕ → Type 0
+Apart from to n = (from + n ≤ to) ⊎ (to + n ≤ from)

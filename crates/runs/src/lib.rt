@@ -6,7 +6,7 @@ ghost use lib.Dec.{eqb};
 ghost use lib.ListN.{length};
 ghost use Rattle.model.specs.Values.{isNull};
 ghost use Rattle.model.specs.Soundness.{all};
-ghost use Rattle.runs.specs.Runs.{run, cleared, copiedRun};
+ghost use Rattle.runs.specs.Runs.{run, cleared, copiedRun, Apart};
 
 fn clear_run(heap: &mut [u32], from: usize, n: usize)
     requires { ⌜ from + n ≤ length (now heap) ⌝ }
@@ -53,17 +53,6 @@ pub fn clear(heap: &mut [u32], from: usize, n: usize)
     clear_run(heap, from, n);
 }
 
-fn copy_run(heap: &mut [u32], from: usize, to: usize, n: usize)
-    requires { ⌜ (from + n ≤ length (now heap)) × (to + n ≤ length (now heap)) ⌝ }
-    ensures { λ _. ⌜ now (heap .exit) ≡ copiedRun (now (heap .entry)) from to n ⌝ }
-{
-    let mut i: usize = 0;
-    while i < n {
-        heap[to + i] = heap[from + i];
-        i += 1;
-    }
-}
-
 fn copy_few(heap: &mut [u32], from: usize, to: usize, n: usize)
     requires { ⌜ (from + n ≤ length (now heap)) × (to + n ≤ length (now heap)) × (n ≤ 4) ⌝ }
     ensures { λ _. ⌜ now (heap .exit) ≡ copiedRun (now (heap .entry)) from to n ⌝ }
@@ -86,16 +75,60 @@ fn copy_few(heap: &mut [u32], from: usize, to: usize, n: usize)
     heap[to + 3] = heap[from + 3];
 }
 
-// Copies n words, one after the other.
+// Four words at once: all are read before one is written.
+fn copy_four(heap: &mut [u32], from: usize, to: usize)
+    requires { ⌜ (from + 4 ≤ length (now heap)) × (to + 4 ≤ length (now heap)) × Apart from to 4 ⌝ }
+    ensures { λ _. ⌜ now (heap .exit) ≡ copiedRun (now (heap .entry)) from to 4 ⌝ }
+{
+    let one = heap[from];
+    let two = heap[from + 1];
+    let three = heap[from + 2];
+    let four = heap[from + 3];
+    heap[to] = one;
+    heap[to + 1] = two;
+    heap[to + 2] = three;
+    heap[to + 3] = four;
+}
+
+fn copy_eight(heap: &mut [u32], from: usize, to: usize)
+    requires { ⌜ (from + 8 ≤ length (now heap)) × (to + 8 ≤ length (now heap)) × Apart from to 8 ⌝ }
+    ensures { λ _. ⌜ now (heap .exit) ≡ copiedRun (now (heap .entry)) from to 8 ⌝ }
+{
+    copy_four(heap, from, to);
+    copy_four(heap, from + 4, to + 4);
+}
+
+// Eight words or more: by eights, and the last eight once more, so that no word is left over.
+fn copy_eights(heap: &mut [u32], from: usize, to: usize, n: usize)
+    requires { ⌜ (from + n ≤ length (now heap)) × (to + n ≤ length (now heap)) × Apart from to n
+        × (8 ≤ n) ⌝ }
+    ensures { λ _. ⌜ now (heap .exit) ≡ copiedRun (now (heap .entry)) from to n ⌝ }
+{
+    let last = n - 8;
+    let mut i: usize = 0;
+    while i < last {
+        copy_eight(heap, from + i, to + i);
+        i += 8;
+    }
+    copy_eight(heap, from + last, to + last);
+}
+
+// Copies n words to where none of them stands.
 pub fn copy(heap: &mut [u32], from: usize, to: usize, n: usize)
-    requires { ⌜ (from + n ≤ length (now heap)) × (to + n ≤ length (now heap)) ⌝ }
+    requires { ⌜ (from + n ≤ length (now heap)) × (to + n ≤ length (now heap)) × Apart from to n ⌝ }
     ensures { λ _. ⌜ now (heap .exit) ≡ copiedRun (now (heap .entry)) from to n ⌝ }
 {
     if n <= 4 {
         copy_few(heap, from, to, n);
         return;
     }
-    copy_run(heap, from, to, n);
+    if n <= 8 {
+        let last = n - 4;
+        copy_four(heap, from, to);
+        copy_four(heap, from + last, to + last);
+        return;
+    }
+    copy_eights(heap, from, to, n);
 }
 
 // The bits that any of n words has. There is no way out of the loop, so that it takes several words at a

@@ -1,41 +1,122 @@
--- What inspect says of a root's word, case by case, where SHAPE and ROOT have passed.
-use Prim.Native.Nat.{ℕ, _<_, _%_}
-use native.Mathlib.Omega.{arith}
-use mathlib.Core.Path.{_≡_, sym}
-use mathlib.Core.Bool.{true, false}
+-- What inspect says of a root, by what the root holds; and what its word is where it holds an integer or an object.
+use Prim.Native.Nat.{ℕ, _<_}
+use mathlib.Core.Path.{_≡_, refl, sym, ap, _∙_}
+use mathlib.Core.Bool.{Bool, true, false, not, cond}
+use lib.Dec.{leb}
 use lib.ListN.{length}
-use borrow.Author.Tests.{eq-eqb, ne-eqb, lt-leb}
+use borrow.Author.Tests.{leb-false}
 use Rattle.model.specs.declared.Kind.{Kind}
 use Rattle.model.specs.declared.Refusal.the-variants as Why
+use Rattle.model.specs.declared.Answer.{Answer}
 use Rattle.model.specs.declared.Answer.the-variants as Says
-use Rattle.model.specs.Words.{State}
-use Rattle.model.specs.Values.{untag}
+use Rattle.model.specs.Words.{State, at}
+use Rattle.model.specs.Values.{isOdd, isNull, untag}
 use Rattle.model.specs.Headers.{Layout}
 use Rattle.model.specs.Objects.{index, kind, fieldCount, names}
 use Rattle.model.specs.Shape.{badShape}
-use Rattle.model.specs.Answers.{says, refuse}
+use Rattle.model.specs.Answers.{Outcome, says, refuse, told}
 use Rattle.model.specs.Changes.{rootWord}
 use Rattle.model.specs.Calls.{inspect}
+use Rattle.model.proofs.Tests.{never}
+use Rattle.naming.proofs.NamedObjects.{header-below}
+use Rattle.views.specs.declared.contents.Sort.{Sort}
+use Rattle.views.specs.declared.contents.Sort.the-variants.{Null, Integer, Object, Refused}
+use Rattle.views.specs.Sorts.{sortOf}
 
-module _ (Y : Layout) (s : State) (r : ℕ) (h : badShape s ≡ false) (l : r < length (s .roots)) where
-  pub inspect-integer : rootWord s r % 2 ≡ 1 → says (Says.Integer (untag (rootWord s r))) s ≡ inspect Y r s
-  unfolding inspect refuse
-  inspect-integer o = simp (h, lt-leb (length (s .roots)) r l, eq-eqb (rootWord s r % 2) 1 o)
+-- the five tests in order, whatever each comes to
+abbrev sorted : Bool → Bool → Bool → Bool → Bool → Sort
+sorted shape root odd null named =
+    cond shape (Refused Why.Shape)
+    (cond root (Refused Why.Root)
+    (cond odd Integer (cond null Null (cond (not named) (Refused Why.Object) Object))))
 
-  pub inspect-null : rootWord s r ≡ 0 → says Says.Null s ≡ inspect Y r s
-  unfolding inspect refuse
-  inspect-null z =
-      simp (h, lt-leb (length (s .roots)) r l, ne-eqb (rootWord s r % 2) 1 (λ o. omega arith), eq-eqb (rootWord s r) 0 z)
+-- whether a sort says that there is such a root; and that its word names an object
+abbrev ofRoot : Sort → Bool
+ofRoot Null = true
+ofRoot Integer = true
+ofRoot Object = true
+ofRoot (Refused k) = false
 
-  module _ (o : rootWord s r % 2 ≡ 1 → ⊥) (z : rootWord s r ≡ 0 → ⊥) where
-    pub inspect-nothing : names Y s (rootWord s r) ≡ false → says (Says.Refused Why.Object) s ≡ inspect Y r s
-    unfolding inspect refuse
-    inspect-nothing n =
-        simp (h, lt-leb (length (s .roots)) r l, ne-eqb (rootWord s r % 2) 1 o, ne-eqb (rootWord s r) 0 z, n)
+abbrev ofObject : Sort → Bool
+ofObject Null = false
+ofObject Integer = false
+ofObject Object = true
+ofObject (Refused k) = false
 
-    pub inspect-object : (i n : ℕ) (k : Kind) → i ≡ index Y (rootWord s r) → k ≡ kind Y (s .heap) i
-        → n ≡ fieldCount Y (s .heap) i
-        → names Y s (rootWord s r) ≡ true → says (Says.Object k n) s ≡ inspect Y r s
-    unfolding inspect refuse
-    inspect-object i n k e f g d =
-        simp (sym e, sym f, sym g, h, lt-leb (length (s .roots)) r l, ne-eqb (rootWord s r % 2) 1 o, ne-eqb (rootWord s r) 0 z, d)
+module _ (Y : Layout) (r : ℕ) (s : State) where
+  -- the sort by its tests
+  pub sort-tests : {shape root odd null named : Bool} → badShape s ≡ shape → leb (length (s .roots)) r ≡ root
+      → isOdd (rootWord s r) ≡ odd → isNull (rootWord s r) ≡ null → names Y s (rootWord s r) ≡ named
+      → sorted shape root odd null named ≡ sortOf Y r s
+  unfolding sortOf
+  sort-tests a b c d e = simp (a, b, c, d, e)
+
+  abbrev pub answerOf : Sort → Answer
+  answerOf Null = Says.Null
+  answerOf Integer = Says.Integer (untag (rootWord s r))
+  answerOf Object = Says.Object (kind Y (s .heap) (index Y (rootWord s r))) (fieldCount Y (s .heap) (index Y (rootWord s r)))
+  answerOf (Refused k) = Says.Refused k
+
+  pub inspect-by-sort : {x : Sort} → x ≡ sortOf Y r s → says (answerOf x) s ≡ inspect Y r s
+  unfolding sortOf inspect refuse
+  inspect-by-sort e =
+      ap (λ (x : Sort). says (answerOf x) s) e
+      ∙ by-tests (badShape s) (leb (length (s .roots)) r) (isOdd (rootWord s r)) (isNull (rootWord s r)) (names Y s (rootWord s r))
+    where
+      by-tests : (shape root odd null named : Bool) → says (answerOf (sorted shape root odd null named)) s
+          ≡ cond shape (says (Says.Refused Why.Shape) s)
+          (cond root (says (Says.Refused Why.Root) s)
+          (cond odd (says (answerOf Integer) s)
+          (cond null (says Says.Null s)
+          (cond (not named) (says (Says.Refused Why.Object) s) (says (answerOf Object) s)))))
+      by-tests true _ _ _ _ = refl
+      by-tests false true _ _ _ = refl
+      by-tests false false true _ _ = refl
+      by-tests false false false true _ = refl
+      by-tests false false false false true = refl
+      by-tests false false false false false = refl
+
+  -- the same in numbers
+  pub told-by-sort : {x : Sort} → x ≡ sortOf Y r s → told (answerOf x) ≡ told (inspect Y r s .answer)
+  told-by-sort e = ap (λ (o : Outcome State). told (o .answer)) (inspect-by-sort e)
+
+  -- there is such a root where its word is an integer's or an object's
+  in-roots : {x : Sort} → x ≡ sortOf Y r s → ofRoot x ≡ true → r < length (s .roots)
+  unfolding sortOf
+  in-roots e h =
+      leb-false _ _
+      (by-tests (badShape s) (leb (length (s .roots)) r) (isOdd (rootWord s r)) (isNull (rootWord s r)) (names Y s (rootWord s r))
+      (ap ofRoot (sym e) ∙ h))
+    where
+      by-tests : (shape root odd null named : Bool) → ofRoot (sorted shape root odd null named) ≡ true → root ≡ false
+      by-tests true _ _ _ _ h = never h refl
+      by-tests false true _ _ _ h = never h refl
+      by-tests false false _ _ _ h = refl
+
+  pub integer-in-roots : Integer ≡ sortOf Y r s → r < length (s .roots)
+  integer-in-roots e = in-roots e refl
+
+  pub object-in-roots : Object ≡ sortOf Y r s → r < length (s .roots)
+  object-in-roots e = in-roots e refl
+
+  -- and an object lies in the heap
+  pub object-in-heap : Object ≡ sortOf Y r s → index Y (rootWord s r) < length (s .heap)
+  unfolding sortOf
+  object-in-heap e =
+      let o = by-tests (badShape s) (leb (length (s .roots)) r) (isOdd (rootWord s r)) (isNull (rootWord s r))
+      (names Y s (rootWord s r)) (ap ofObject (sym e)) in
+      header-below Y s (rootWord s r) _ refl (o .0) (o .1)
+    where
+      by-tests : (shape root odd null named : Bool) → ofObject (sorted shape root odd null named) ≡ true
+          → (shape ≡ false) × (named ≡ true)
+      by-tests true _ _ _ _ h = never h refl
+      by-tests false true _ _ _ h = never h refl
+      by-tests false false true _ _ h = never h refl
+      by-tests false false false true _ h = never h refl
+      by-tests false false false false true h = (refl, refl)
+      by-tests false false false false false h = never h refl
+
+  -- the answer of an object, by its header as the code has it
+  pub object-answer : {k : Kind} {n : ℕ} (header : ℕ) → header ≡ at (s .heap) (index Y (rootWord s r))
+      → k ≡ Y .kindOf header → n ≡ Y .countOf header → Says.Object k n ≡ answerOf Object
+  object-answer header e f g = simp (f, g, e)

@@ -1,8 +1,10 @@
 // The limits of document 01, the halves of a heap, and the tests behind SHAPE and ROOT. Nothing here looks at
 // a heap word.
 ghost use mathlib.Core.Path.{_≡_};
+ghost use mathlib.Core.Bool.{_&&_};
 ghost use mathlib.Core.List.{[], _∷_};
-ghost use Prim.Native.Nat.{_≤_};
+ghost use Prim.Native.Nat.{_+_, _^_, _≤_, _<_};
+ghost use lib.Dec.{leb, ltb};
 ghost use Rattle.model.specs.Limits.{maxHalf};
 ghost use Rattle.model.specs.Words.{halfWordsOf, other, firstOf};
 ghost use Rattle.model.specs.Shape.{badLength, badShapeOf};
@@ -11,7 +13,7 @@ use model::Half;
 use model::Index;
 use model::Record;
 
-pub const MAX_WORDS: usize = 2097153;
+pub const MAX_HALF: usize = 1048576;
 
 pub const MAX_ROOTS: usize = 65536;
 
@@ -45,6 +47,15 @@ pub fn first_of(half_words: usize, half: Half) -> Index
     }
 }
 
+// Whether an index is one of the `count` from `first` on. One test does for both ends, since an index below
+// the first wraps round.
+pub fn in_run(at: usize, first: usize, count: usize) -> bool
+    requires { ⌜ first + count < 2 ^ 64 ⌝ }
+    ensures { λ r. ⌜ r ≡ (leb first at && ltb at (first + count)) ⌝ }
+{
+    std::num::wrapping_sub_usize(at, first) < count
+}
+
 // The part of SHAPE that fresh gives.
 pub fn bad_length(length: usize) -> bool
     ensures { λ r. ⌜ r ≡ badLength length ⌝ }
@@ -52,38 +63,31 @@ pub fn bad_length(length: usize) -> bool
     if length % 2 == 0 {
         return true;
     }
-    if length < 3 {
-        return true;
-    }
-    MAX_WORDS < length
+    !in_run(length / 2, 1, MAX_HALF)
 }
 
 // SHAPE. The halves mean nothing before the length is known to be good.
 pub fn bad_shape(length: usize, root_count: usize, record: Record) -> bool
     ensures { λ r. ⌜ r ≡ badShapeOf length «root_count» «record» ⌝ }
 {
-    if bad_length(length) {
+    if MAX_ROOTS < root_count {
         return true;
     }
-    if MAX_ROOTS < root_count {
+    if bad_length(length) {
         return true;
     }
     let half = record.half;
     let free = record.free.0;
     let half_words = half_words(length);
     let first = first_of(half_words, half).0;
-    if free < first {
-        return true;
-    }
-    first + half_words < free
+    !in_run(free, first, half_words + 1)
 }
 
-// ROOT, of a call that names two roots: whether either number is that of none.
+// ROOT, of a call that names two roots: whether either number is that of none. One test does for both, since
+// the smaller is that of a root if the larger is.
 pub fn no_root(root_count: usize, one: usize, other: usize) -> bool
     ensures { λ r. ⌜ r ≡ noRoots «root_count» (one ∷ other ∷ []) ⌝ }
 {
-    if root_count <= one {
-        return true;
-    }
-    root_count <= other
+    let last = if one < other { other } else { one };
+    root_count <= last
 }

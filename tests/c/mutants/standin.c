@@ -140,28 +140,33 @@ static size_t collect(struct view *v, size_t dead) {
 
 /* ---- the calls ---- */
 
-static phachunoi_result result(uint32_t refusal, uint32_t value, record_t record) {
-  phachunoi_result r = {refusal, value, {0, 0}};
+static phachunoi_result result(uint32_t refusal, record_t record) {
+  phachunoi_result r = {refusal, 0, {0, 0}};
   r.record = record;
   return r;
+}
+
+static phachunoi_answer answer(uint32_t refusal, uint32_t value) {
+  phachunoi_answer a = {refusal, value};
+  return a;
 }
 
 uint32_t phachunoi_version(void) { return PHACHUNOI_VERSION_NUMBER; }
 
 phachunoi_result phachunoi_fresh(uint32_t *heap, size_t words, record_t record) {
   size_t i;
-  if (!length_ok(words)) return result(1, 0, record);
+  if (!length_ok(words)) return result(1, record);
   for (i = BUG(15); i < words; i++) heap[i] = 0; /* word 0 is kept */
   record.half = 0;
   record.free = 1;
-  return result(0, 0, record);
+  return result(0, record);
 }
 
-phachunoi_result phachunoi_check(uint32_t *heap, size_t words, const uint32_t *roots, size_t root_count,
+phachunoi_answer phachunoi_check(uint32_t *heap, size_t words, const uint32_t *roots, size_t root_count,
                                  record_t record) {
   VIEW;
-  if (!shape_ok(&v)) return result(1, 0, record);
-  return result(0, (uint32_t)sound(&v), record);
+  if (!shape_ok(&v)) return answer(1, 0);
+  return answer(0, (uint32_t)sound(&v));
 }
 
 phachunoi_collected phachunoi_collect(uint32_t *heap, size_t words, uint32_t *roots, size_t root_count,
@@ -178,24 +183,24 @@ phachunoi_collected phachunoi_collect(uint32_t *heap, size_t words, uint32_t *ro
 
 static phachunoi_result allocate(struct view *v, size_t n, size_t to, uint32_t kind) {
   size_t k;
-  if (!shape_ok(v)) return result(1, 0, v->record);
+  if (!shape_ok(v)) return result(1, v->record);
   if (BUG(16)) to = (uint32_t)to; /* a root number is narrowed */
   if (BUG(17)) n = (uint32_t)n;   /* so is a count */
-  if (to >= v->root_count) return result(2, 0, v->record);
-  if (n > PHACHUNOI_MAX_FIELDS) return result(3, 0, v->record);
-  if (BUG(18) && n + 1 > half_of(v)) return result(9, 0, v->record); /* a hopeless count does not collect */
-  if (BUG(19) && !sound(v)) return result(8, 0, v->record);          /* soundness is asked for with room to spare */
+  if (to >= v->root_count) return result(2, v->record);
+  if (n > PHACHUNOI_MAX_FIELDS) return result(3, v->record);
+  if (BUG(18) && n + 1 > half_of(v)) return result(9, v->record); /* a hopeless count does not collect */
+  if (BUG(19) && !sound(v)) return result(8, v->record);          /* soundness is asked for with room to spare */
   if (v->record.free + n + 1 > end_of(v)) {
-    if (!sound(v)) return result(8, 0, v->record);
+    if (!sound(v)) return result(8, v->record);
     collect(v, BUG(20) ? to : (size_t)-1); /* the root that is written counts as dead */
   }
-  if (v->record.free + n + 1 > end_of(v)) return result(9, 0, v->record);
+  if (v->record.free + n + 1 > end_of(v)) return result(9, v->record);
   v->heap[v->record.free] = kind << 31 | (uint32_t)(2 * n);
   for (k = 1; k <= n && !BUG(21); k++) v->heap[v->record.free + k] = 0; /* fields are taken to be 0 already */
   v->roots[to] = 4 * v->record.free;
   v->record.free += (uint32_t)n + 1;
   if (BUG(22)) v->heap[v->words] = 0; /* a word past the heap is written */
-  return result(0, 0, v->record);
+  return result(0, v->record);
 }
 
 phachunoi_result phachunoi_allocate_traced(uint32_t *heap, size_t words, uint32_t *roots, size_t root_count,
@@ -210,32 +215,32 @@ phachunoi_result phachunoi_allocate_untraced(uint32_t *heap, size_t words, uint3
   return allocate(&v, fields, to, 1);
 }
 
-phachunoi_result phachunoi_set_integer(const uint32_t *heap, size_t words, uint32_t *roots, size_t root_count,
+phachunoi_answer phachunoi_set_integer(const uint32_t *heap, size_t words, uint32_t *roots, size_t root_count,
                                        record_t record, size_t to, int64_t value) {
   VIEW;
-  if (!shape_ok(&v)) return result(1, 0, record);
-  if (to >= root_count) return result(2, 0, record);
-  if (value < PHACHUNOI_INTEGER_MIN + BUG(23) || value > PHACHUNOI_INTEGER_MAX) return result(4, 0, record);
+  if (!shape_ok(&v)) return answer(1, 0);
+  if (to >= root_count) return answer(2, 0);
+  if (value < PHACHUNOI_INTEGER_MIN + BUG(23) || value > PHACHUNOI_INTEGER_MAX) return answer(4, 0);
   roots[to] = (uint32_t)value * 2 + 1; /* mistake 23: the least integer is refused */
-  return result(0, 0, record);
+  return answer(0, 0);
 }
 
-phachunoi_result phachunoi_set_null(const uint32_t *heap, size_t words, uint32_t *roots, size_t root_count,
+phachunoi_answer phachunoi_set_null(const uint32_t *heap, size_t words, uint32_t *roots, size_t root_count,
                                     record_t record, size_t to) {
   VIEW;
-  if (!shape_ok(&v)) return result(1, 0, record);
-  if (to >= root_count) return result(2, 0, record);
+  if (!shape_ok(&v)) return answer(1, 0);
+  if (to >= root_count) return answer(2, 0);
   roots[to] = 0;
-  return result(0, 0, record);
+  return answer(0, 0);
 }
 
-phachunoi_result phachunoi_copy(const uint32_t *heap, size_t words, uint32_t *roots, size_t root_count,
+phachunoi_answer phachunoi_copy(const uint32_t *heap, size_t words, uint32_t *roots, size_t root_count,
                                 record_t record, size_t from, size_t to) {
   VIEW;
-  if (!shape_ok(&v)) return result(1, 0, record);
-  if (from >= root_count || to >= root_count) return result(2, 0, record);
+  if (!shape_ok(&v)) return answer(1, 0);
+  if (from >= root_count || to >= root_count) return answer(2, 0);
   roots[to] = roots[from];
-  return result(0, 0, record);
+  return answer(0, 0);
 }
 
 static uint32_t field_of(const struct view *v, size_t object, size_t other, size_t field, uint32_t kind, size_t *at) {
@@ -251,22 +256,22 @@ static uint32_t field_of(const struct view *v, size_t object, size_t other, size
   return 0;
 }
 
-phachunoi_result phachunoi_load(const uint32_t *heap, size_t words, uint32_t *roots, size_t root_count,
+phachunoi_answer phachunoi_load(const uint32_t *heap, size_t words, uint32_t *roots, size_t root_count,
                                 record_t record, size_t object, size_t field, size_t to) {
   VIEW;
   size_t at;
   uint32_t refusal = field_of(&v, object, to, field, 0, &at);
   if (refusal == 0) roots[to] = heap[at];
-  return result(refusal, 0, record);
+  return answer(refusal, 0);
 }
 
-phachunoi_result phachunoi_store(uint32_t *heap, size_t words, const uint32_t *roots, size_t root_count,
+phachunoi_answer phachunoi_store(uint32_t *heap, size_t words, const uint32_t *roots, size_t root_count,
                                  record_t record, size_t object, size_t field, size_t from) {
   VIEW;
   size_t at;
   uint32_t refusal = field_of(&v, object, from, field, 0, &at);
   if (refusal == 0) heap[at] = roots[from];
-  return result(refusal, 0, record);
+  return answer(refusal, 0);
 }
 
 phachunoi_answer phachunoi_raw_read(const uint32_t *heap, size_t words, const uint32_t *roots, size_t root_count,
@@ -279,13 +284,13 @@ phachunoi_answer phachunoi_raw_read(const uint32_t *heap, size_t words, const ui
   return a;
 }
 
-phachunoi_result phachunoi_raw_write(uint32_t *heap, size_t words, const uint32_t *roots, size_t root_count,
+phachunoi_answer phachunoi_raw_write(uint32_t *heap, size_t words, const uint32_t *roots, size_t root_count,
                                      record_t record, size_t object, size_t field, uint32_t number) {
   VIEW;
   size_t at;
   uint32_t refusal = field_of(&v, object, object, field, 1, &at);
   if (refusal == 0) heap[at] = number;
-  return result(refusal, 0, record);
+  return answer(refusal, 0);
 }
 
 phachunoi_answer phachunoi_same(const uint32_t *heap, size_t words, const uint32_t *roots, size_t root_count,

@@ -1,50 +1,55 @@
 -- `checker_marks::is_value` meets its contract: a case law for each return.
-use native.Mathlib.Omega.{arith}
-use mathlib.Core.Path.{sym}
+use mathlib.Core.Bool.{true}
+use mathlib.Core.Path.{_≡_, sym, _∙_}
 use borrow.Author.Needs.{needs}
-use Rattle.checker_marks.proofs.Turns.{value-odd, value-null, value-askew, value-low, value-high, value-marked}
+use borrow.Author.Tests.{not-true, not-false}
+use Rattle.checker_marks.proofs.Turns.{inPart, value-askew, value-null, value-named, mark-within}
 use Rattle.checker_marks.proofs.is_value.Statement.{statement}
 use Rattle.checker_marks.proofs.is_value.Tie as tie
 use Rattle.checker_marks.proofs.is_value.Reads as reads
 use Rattle.checker_marks.proofs.is_value.Lts as lts
+use Rattle.words.proofs.shape.in_run.Reads as in-run-reads
 use Rattle.words.proofs.tuple.Tuple.index_of.Reads as index-of-reads
 
--- past the test of the low bits, at the index, and past the test of the used part's first word
-abbrev aligned : tie.After-index-of → tie.Else3
-aligned c = c .before
+-- where the call begins, the word has an index, and the index is in the part
+abbrev start : tie.After-index-of → tie.Start
+start c = c .before .before .before .before
 
-abbrev indexed : tie.Else4 → tie.After-index-of
-indexed c = c .before
+abbrev indexed : tie.After-in-run → tie.After-index-of
+indexed c = c .before .before
 
-abbrev past : tie.After-struct-known → tie.Else4
-past c = c .before
+abbrev inside : tie.After-shared-slice-known2 → tie.Else3
+inside c = c .before .before
+
+-- what `in_run` answers of such an index
+is-inside : (c : tie.Else3)
+    → true ≡ inPart (start (indexed (c .before)) .args .part) (indexed (c .before) .index-of .result .0)
+is-inside c = sym (not-false _ (c .if3 .left)) ∙ c .before .in-run .ensures
 
 returns : tie.Need-returns
-returns c = sym (value-odd _ _ _ _ (c .if1 .taken))
+returns c = sym (value-askew _ _ _ _ (c .if1 .taken))
 
 returns-2 : tie.Need-returns-2
 returns-2 c = sym (value-null _ _ _ _ (c .if2 .taken))
 
-returns-3 : tie.Need-returns-3
-returns-3 c = sym (value-askew _ _ _ _ (omega arith) (c .before .if2 .left) (c .if3 .taken))
-
 index-of-requires : tie.Need-index-of-requires
 index-of-requires c κs = search needs
 
-returns-4 : tie.Need-returns-4
-returns-4 c =
-    let i = c .before in
-    sym
-    (value-low _ _ _ _ (omega arith) (aligned i .before .if2 .left) _ (i .index-of .ensures)
-    (aligned i .if3 .left) (c .if4 .taken))
+sub-in-run : tie.Need-sub-in-run
+sub-in-run c = search needs
 
-returns-5 : tie.Need-returns-5
-returns-5 c =
-    let low = past (c .before) in
-    let i = indexed low in
+in-run-requires : tie.Need-in-run-requires
+in-run-requires c κs = search needs
+
+returns-3 : tie.Need-returns-3
+returns-3 c =
+    let i = indexed (c .before) in
     sym
-    (value-high _ _ _ _ (omega arith) (aligned i .before .if2 .left) _ (i .index-of .ensures)
-    (aligned i .if3 .left) (low .if4 .left) (c .if5 .taken))
+    (value-named _ _ _ _ (i .before .before .if1 .left) (i .before .if2 .left) (start i .pre) _ (i .index-of .ensures)
+    _ (sym (not-true _ (c .if3 .taken)) ∙ c .before .in-run .ensures))
+
+sub-result : tie.Need-sub-result
+sub-result c = mark-within _ _ _ (start (indexed (c .before)) .pre) (is-inside c) .0
 
 add-result : tie.Need-add-result
 add-result c = search needs
@@ -53,16 +58,15 @@ mul-result : tie.Need-mul-result
 mul-result c = search needs
 
 shared-slice-read-result : tie.Need-shared-slice-read-result
-shared-slice-read-result c = search needs
+shared-slice-read-result c =
+    mark-within _ _ _ (start (indexed (inside c .before)) .pre) (is-inside (inside c)) .1
 
-returns-6 : tie.Need-returns-6
-returns-6 c =
-    let below = c .before in
-    let low = past (below .before) in
-    let i = indexed low in
+returns-4 : tie.Need-returns-4
+returns-4 c =
+    let i = indexed (inside c .before) in
     sym
-    (value-marked _ _ _ _ (omega arith) (aligned i .before .if2 .left) _ (i .index-of .ensures)
-    (aligned i .if3 .left) (low .if4 .left) (below .if5 .left))
+    (value-named _ _ _ _ (i .before .before .if1 .left) (i .before .if2 .left) (start i .pre) _ (i .index-of .ensures)
+    _ (is-inside (inside c)))
 
 pub is-value-spec : {M : Type 1} → statement M
 is-value-spec =
@@ -70,11 +74,12 @@ is-value-spec =
     (tie.spec
     returns
     returns-2
-    returns-3
     index-of-requires
-    returns-4
-    returns-5
+    sub-in-run
+    in-run-requires
+    returns-3
+    sub-result
     add-result
     mul-result
     shared-slice-read-result
-    returns-6)
+    returns-4)

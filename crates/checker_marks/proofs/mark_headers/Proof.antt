@@ -2,26 +2,26 @@
 use Prim.Native.Nat.{_-_, _≤_}
 use native.Mathlib.Omega.{arith}
 use mathlib.Core.Path.{_≡_, refl, sym, _∙_}
-use lib.ListN.{length, length-set}
+use lib.ListN.{length}
 use borrow.Author.Tests.{not-true, not-false}
 use Rattle.model.specs.Headers.{tuple}
-use Rattle.checker_marks.specs.Marks.{part, markHeaders, marked}
-use Rattle.checker_marks.proofs.Turns.{mark-ended, mark-stopped, mark-turn}
+use Rattle.checker_marks.specs.Marks.{markedFrom, marked}
+use Rattle.checker_marks.proofs.Turns.{mark-ended, mark-stopped}
 use Rattle.checker_marks.proofs.mark_headers.Statement.{statement}
 use Rattle.checker_marks.proofs.mark_headers.Tie as tie
 use Rattle.checker_marks.proofs.mark_headers.Reads as reads
 use Rattle.checker_marks.proofs.mark_headers.Lts as lts
-use Rattle.words.proofs.tuple.Tuple.count_of.Reads as count-of-reads
+use Rattle.checker_marks.proofs.mark_alike.Reads as mark-alike-reads
 use Rattle.words.proofs.tuple.Tuple.is_header.Reads as is-header-reads
 
 abbrev Inv-loop : tie.InvT-loop
-Inv-loop heap₀ first free marks at₀ heap at =
-    (markHeaders tuple (free - at) heap (part first free marks) at ≡ marked tuple heap₀ (part first free marks))
-    × (first ≤ at)
+Inv-loop heap₀ part free at₀ heap at =
+    (markedFrom tuple heap part at ≡ marked tuple heap₀ part)
+    × (part .first .0 ≤ at)
     × (length heap ≡ length heap₀)
 
 abbrev μ-loop : tie.MeasureT-loop
-μ-loop heap₀ first free marks at₀ heap at = free - at
+μ-loop heap₀ part free at₀ heap at = free - at
 
 -- where the call begins, and the turn that meets a word
 abbrev start : tie.At-loop Inv-loop μ-loop → tie.Start Inv-loop μ-loop
@@ -53,41 +53,25 @@ returns c =
     let h = sym (c .before .is-header .ensures) ∙ not-true _ (c .if1 .taken) in
     sym (mark-stopped tuple p _ (l .heap) (l .at) (met .loop-test .taken) h) ∙ l .inv .0
 
-sub-heap : tie.Need-sub-heap Inv-loop μ-loop
-sub-heap c = omega arith
-
-add-heap : tie.Need-add-heap Inv-loop μ-loop
-add-heap c = omega arith
-
-mul-heap : tie.Need-mul-heap Inv-loop μ-loop
-mul-heap c = omega arith
-
-slice-write-heap : tie.Need-slice-write-heap Inv-loop μ-loop
-slice-write-heap c = omega arith
-
-count-of-requires : tie.Need-count-of-requires Inv-loop μ-loop
-count-of-requires c κs = tt
-
-add-at : tie.Need-add-at Inv-loop μ-loop
-add-at c = omega arith
-
-add-at-2 : tie.Need-add-at-2 Inv-loop μ-loop
-add-at-2 c = omega arith
+mark-alike-requires : tie.Need-mark-alike-requires Inv-loop μ-loop
+mark-alike-requires c κs =
+    let tested = c .before .before in
+    let h = sym (tested .is-header .ensures) ∙ not-false _ (c .before .if1 .left) in (
+      record { start = omega arith; used = omega arith; marks = omega arith },
+      omega arith,
+      more tested .loop-test .taken,
+      refl,
+      h,
+    )
 
 loop-less : tie.Need-loop-less Inv-loop μ-loop
 loop-less c = omega arith
 
 loop-again : tie.Need-loop-again Inv-loop μ-loop
 loop-again c =
-    let headed = c .before in
-    let met = more (headed .before) in
-    let l = met .before .loop in
-    let p = start (met .before) .args .part in
-    let h = sym (headed .before .is-header .ensures) ∙ not-false _ (headed .if1 .left) in (
-      mark-turn tuple p (l .heap) (l .at) (met .loop-test .taken) h _ (c .count-of .ensures .0) ∙ l .inv .0,
-      omega arith,
-      simp length-set (l .inv .2),
-    )
+    let alike = c .before .before in
+    let l = more (alike .before .before .before) .before .loop in
+    (alike .mark-alike .ensures .1 ∙ l .inv .0, omega arith, omega arith)
 
 same-length-2 : tie.Need-same-length-2 Inv-loop μ-loop
 same-length-2 c = c .before .loop .inv .2
@@ -109,13 +93,7 @@ mark-headers-spec =
     is-header-requires
     same-length
     returns
-    sub-heap
-    add-heap
-    mul-heap
-    slice-write-heap
-    count-of-requires
-    add-at
-    add-at-2
+    mark-alike-requires
     loop-less
     loop-again
     same-length-2

@@ -3,6 +3,7 @@ use native.Mathlib.Omega.{arith}
 use mathlib.Core.Path.{sym, _∙_}
 use lib.ListN.{length-set}
 use Rattle.model.specs.Headers.{tuple}
+use Rattle.runs.proofs.RunLaws.{apart-part}
 use Rattle.engine_moving.proofs.MovingLaws.{copied-is, copied-same, found-is}
 use borrow.Author.Needs.{needs}
 use Rattle.engine_moving.proofs.relocate.Statement.{statement}
@@ -60,7 +61,10 @@ copy-requires c κs =
     let met = headed (counted c) in
     let p = start (met .before) .pre in
     let head = sym (met .before .is-header .ensures) ∙ met .if1 .taken in
-    simp length-set (omega (arith, p .whole head, p .fits head, counted c .count-of .ensures .0))
+    let whole = p .whole head in
+    let fits = p .fits head in
+    let n = counted c .count-of .ensures .0 in
+    simp length-set (omega arith, omega arith, apart-part _ _ 1 _ _ (omega arith) (p .apart head))
 
 address-of-requires : tie.Need-address-of-requires
 address-of-requires c κs = search needs

@@ -19,12 +19,15 @@ use Rattle.words.proofs.tuple.Tuple.header.Reads as header-reads
 abbrev start : tie.After-header → tie.Start
 start c = c .before .before .before .before
 
--- the header is made, and the words are cleared
-abbrev headed : tie.After-clear → tie.After-header
-headed c = c .before .before
+-- the header is made, the address is known, and the words are cleared
+abbrev headed : tie.After-address-of → tie.After-header
+headed c = c .before
 
-abbrev cleared : tie.After-address-of → tie.After-clear
-cleared c = c .before .before .before
+abbrev named : tie.After-clear → tie.After-address-of
+named c = c .before .before
+
+abbrev cleared : tie.After-slice-known3 → tie.After-clear
+cleared c = c .before .before
 
 header-requires : tie.Need-header-requires
 header-requires c κs = search needs
@@ -35,12 +38,6 @@ mul-heap c = search needs
 slice-write-heap : tie.Need-slice-write-heap
 slice-write-heap c = search needs
 
-add-clear : tie.Need-add-clear
-add-clear c = search needs
-
-clear-requires : tie.Need-clear-requires
-clear-requires c κs = simp length-set (omega (arith, start (c .before) .pre .room))
-
 address-of-requires : tie.Need-address-of-requires
 address-of-requires c κs = search needs
 
@@ -50,6 +47,12 @@ mul-roots c = search needs
 slice-write-roots : tie.Need-slice-write-roots
 slice-write-roots c = search needs
 
+add-clear : tie.Need-add-clear
+add-clear c = search needs
+
+clear-requires : tie.Need-clear-requires
+clear-requires c κs = simp length-set (omega (arith, start (headed (c .before)) .pre .room))
+
 add-t11 : tie.Need-add-t11
 add-t11 c = search needs
 
@@ -58,7 +61,7 @@ add-t18 c = search needs
 
 same-length : tie.Need-same-length
 same-length c =
-    let made = headed (cleared c) in
+    let made = headed (named (cleared c)) in
     let s = start made in
     ap length (cleared c .clear .ensures) ∙ cleared-length _ _ _
     ∙ length-set (s .args .heap .now) (s .args .«record» .free .0) (made .header .result)
@@ -68,10 +71,10 @@ same-length-2 c = search needs
 
 returns : tie.Need-returns
 returns c =
-    let made = headed (cleared c) in
+    let made = headed (named (cleared c)) in
     let s = start made in
     placed-by tuple (stateOf (s .args .heap .now) (s .args .roots .now) (s .args .«record»)) _ _ _ _ _ _
-    (made .header .ensures) (cleared c .clear .ensures) (c .address-of .ensures)
+    (made .header .ensures) (cleared c .clear .ensures) (named (cleared c) .address-of .ensures)
 
 pub place-spec : {M : Type 1} → statement M
 place-spec =
@@ -80,11 +83,11 @@ place-spec =
     header-requires
     mul-heap
     slice-write-heap
-    add-clear
-    clear-requires
     address-of-requires
     mul-roots
     slice-write-roots
+    add-clear
+    clear-requires
     add-t11
     add-t18
     same-length

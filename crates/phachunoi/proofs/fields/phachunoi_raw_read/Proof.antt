@@ -1,8 +1,9 @@
 -- `phachunoi::fields::phachunoi_raw_read` meets its contract: its numbers cross to the call and back.
+use mathlib.Core.Path.{refl}
 use Rattle.model.specs.declared.Call.the-variants as Ask
 use Rattle.model.specs.Sessions.{step}
 use Rattle.crossing.specs.Numbers.{answerOf}
-use Rattle.crossing.proofs.Crosses.{crosses}
+use Rattle.crossing.proofs.Crosses.{keeps}
 use borrow.Author.Needs.{needs}
 use Rattle.phachunoi.proofs.fields.phachunoi_raw_read.Statement.{statement}
 use Rattle.phachunoi.proofs.fields.phachunoi_raw_read.Tie as tie
@@ -27,7 +28,7 @@ returns c =
     let called = c .before in
     let crossed = called .before in
     let a = crossed .before .before .before .args in
-    crosses (λ t c. answerOf t) (a .«record») (a .heap .now) (a .roots .now) (Ask.RawRead (a .object) (a .field))
+    keeps answerOf (a .«record») (a .heap .now) (a .roots .now) (Ask.RawRead (a .object) (a .field)) refl
     (crossed .record-of .ensures) (called .raw-read .ensures) (c .answer-of .ensures)
 
 pub phachunoi-raw-read-spec : {M : Type 1} → statement M

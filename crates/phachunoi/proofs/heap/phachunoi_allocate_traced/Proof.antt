@@ -5,7 +5,7 @@ use mathlib.Core.Bool.{true}
 use lib.ListN.{length}
 use Rattle.model.specs.declared.Kind.the-variants.{Traced}
 use Rattle.placing.specs.Placing.{atOnce}
-use Rattle.phachunoi.proofs.Allocating.{at-once-crosses, at-once-narrow, whole-crosses, whole-narrow}
+use Rattle.phachunoi.proofs.Allocating.{at-once-crosses, at-once-narrow}
 use borrow.Author.Needs.{needs}
 use Rattle.phachunoi.proofs.heap.phachunoi_allocate_traced.Statement.{statement}
 use Rattle.phachunoi.proofs.heap.phachunoi_allocate_traced.Tie as tie
@@ -13,9 +13,8 @@ use Rattle.phachunoi.proofs.heap.phachunoi_allocate_traced.Reads as rea
 use Rattle.phachunoi.proofs.heap.phachunoi_allocate_traced.Lts as lts
 use Rattle.crossing.proofs.done_with.Reads as done-with-reads
 use Rattle.crossing.proofs.record_of.Reads as record-of-reads
-use Rattle.crossing.proofs.result_of.Reads as result-of-reads
-use Rattle.allocator.proofs.allocate.Reads as allocate-reads
-use Rattle.placing.proofs.at_once.allocate.Reads as at-once-reads
+use Rattle.phachunoi.proofs.heap.allocate.Reads as heap-allocate-reads
+use Rattle.placing.proofs.at_once.allocate.Reads as at-once-allocate-reads
 use Rattle.placing.proofs.at_once.fits.Reads as fits-reads
 
 -- where the call begins; the record is taken, and the object is tested to fit
@@ -73,25 +72,8 @@ returns c =
 
 -- ---- by the whole call
 
--- the record is taken again after the test, and the call is made
-abbrev tested : tie.After-record-of2 → tie.After-fits2
-tested c = c .before .before .before .before
-
-abbrev called : tie.After-slice-known6 → tie.After-allocate2
-called c = c .before .before .before .before
-
-record-of-requires-2 : tie.Need-record-of-requires-2
-record-of-requires-2 c κs = search needs
-
 allocate-requires-2 : tie.Need-allocate-requires-2
 allocate-requires-2 c κs = search needs
-
-result-of-requires : tie.Need-result-of-requires
-result-of-requires c κs =
-    let again = called c .before in
-    let s = start (crossed (tested again)) in
-    whole-narrow Traced (s .args .«record») _ _ _ _
-    (again .record-of2 .ensures) (called c .allocate2 .ensures) (omega (arith, s .good))
 
 same-length-3 : tie.Need-same-length-3
 same-length-3 c = search needs
@@ -100,12 +82,7 @@ same-length-4 : tie.Need-same-length-4
 same-length-4 c = search needs
 
 returns-2 : tie.Need-returns-2
-returns-2 c =
-    let made = called (c .before) in
-    let again = made .before in
-    let a = start (crossed (tested again)) .args in
-    whole-crosses Traced (a .«record») _ _ _ _
-    (again .record-of2 .ensures) (made .allocate2 .ensures) (c .result-of .ensures)
+returns-2 c = search needs
 
 pub phachunoi-allocate-traced-spec : {M : Type 1} → statement M
 phachunoi-allocate-traced-spec =
@@ -118,9 +95,7 @@ phachunoi-allocate-traced-spec =
     same-length
     same-length-2
     returns
-    record-of-requires-2
     allocate-requires-2
-    result-of-requires
     same-length-3
     same-length-4
     returns-2)

@@ -1,35 +1,31 @@
 -- `phachunoi::roots::phachunoi_inspect` meets its contract: its numbers cross to the call and back.
-use Rattle.model.specs.declared.Call.the-variants as Ask
-use Rattle.model.specs.Sessions.{step}
-use Rattle.crossing.specs.Numbers.{seenOf}
-use Rattle.crossing.proofs.Crosses.{crosses}
+use Rattle.crossing.proofs.Crosses.{seen}
 use borrow.Author.Needs.{needs}
 use Rattle.phachunoi.proofs.roots.phachunoi_inspect.Statement.{statement}
 use Rattle.phachunoi.proofs.roots.phachunoi_inspect.Tie as tie
 use Rattle.phachunoi.proofs.roots.phachunoi_inspect.Reads as reads
 use Rattle.phachunoi.proofs.roots.phachunoi_inspect.Lts as lts
-use Rattle.views.proofs.contents.inspect.Reads as inspect-reads
+use Rattle.views.proofs.contents.tell.Reads as tell-reads
 use Rattle.crossing.proofs.record_of.Reads as record-of-reads
 use Rattle.crossing.proofs.seen_of.Reads as seen-of-reads
 
 record-of-requires : tie.Need-record-of-requires
 record-of-requires c κs = search needs
 
-inspect-requires : tie.Need-inspect-requires
-inspect-requires c κs = search needs
+tell-requires : tie.Need-tell-requires
+tell-requires c κs = search needs
 
 seen-of-requires : tie.Need-seen-of-requires
 seen-of-requires c κs = search needs
 
 returns : tie.Need-returns
-unfolding step
 returns c =
     let called = c .before in
     let crossed = called .before in
     let a = crossed .before .before .before .args in
-    crosses (λ t c. seenOf t) (a .«record») (a .heap .now) (a .roots .now) (Ask.Inspect (a .root))
-    (crossed .record-of .ensures) (called .inspect .ensures) (c .seen-of .ensures)
+    seen (a .«record») (a .heap .now) (a .roots .now) (a .root)
+    (crossed .record-of .ensures) (called .tell .ensures) (c .seen-of .ensures)
 
 pub phachunoi-inspect-spec : {M : Type 1} → statement M
 phachunoi-inspect-spec =
-    tie.close (tie.spec record-of-requires inspect-requires seen-of-requires returns)
+    tie.close (tie.spec record-of-requires tell-requires seen-of-requires returns)

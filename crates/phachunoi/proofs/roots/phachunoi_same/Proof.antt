@@ -1,8 +1,9 @@
 -- `phachunoi::roots::phachunoi_same` meets its contract: its numbers cross to the call and back.
+use mathlib.Core.Path.{refl}
 use Rattle.model.specs.declared.Call.the-variants as Ask
 use Rattle.model.specs.Sessions.{step}
 use Rattle.crossing.specs.Numbers.{answerOf}
-use Rattle.crossing.proofs.Crosses.{crosses}
+use Rattle.crossing.proofs.Crosses.{keeps}
 use borrow.Author.Needs.{needs}
 use Rattle.phachunoi.proofs.roots.phachunoi_same.Statement.{statement}
 use Rattle.phachunoi.proofs.roots.phachunoi_same.Tie as tie
@@ -27,7 +28,7 @@ returns c =
     let called = c .before in
     let crossed = called .before in
     let a = crossed .before .before .before .args in
-    crosses (λ t c. answerOf t) (a .«record») (a .heap .now) (a .roots .now) (Ask.Same (a .one) (a .other))
+    keeps answerOf (a .«record») (a .heap .now) (a .roots .now) (Ask.Same (a .one) (a .other)) refl
     (crossed .record-of .ensures) (called .same .ensures) (c .answer-of .ensures)
 
 pub phachunoi-same-spec : {M : Type 1} → statement M

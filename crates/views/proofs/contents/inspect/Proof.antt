@@ -1,146 +1,85 @@
--- `views::inspect` meets its contract, test by test; an object that is named lies in the heap.
-use Prim.Native.Nat.{_<_}
-use borrow.Author.Tests.{le-leb, not-true, not-false}
+-- `views::inspect` meets its contract: an arm for each sort.
 use mathlib.Core.Path.{_≡_, sym, ap, _∙_}
-use mathlib.Core.Bool.{true, false}
-use lib.ListN.{length}
 use lib.IntN.{ℤ}
+use Rattle.model.specs.declared.Answer.{Answer}
 use Rattle.model.specs.declared.Answer.the-variants as Says
 use Rattle.model.specs.Answers.{says}
 use Rattle.model.specs.Words.{State, stateOf}
 use Rattle.model.specs.Headers.{tuple}
-use Rattle.model.specs.Objects.{names}
-use Rattle.model.specs.Shape.{badShape}
-use Rattle.model.specs.Changes.{rootWord}
-use Rattle.model.specs.Calls.{inspect}
-use Rattle.model.proofs.Refusing.{said, applies, passes}
-use Rattle.naming.proofs.NamedObjects.{header-below, free-in-heap}
-use Rattle.views.proofs.Inspecting.{inspect-integer, inspect-null, inspect-nothing, inspect-object}
+use Rattle.model.proofs.Refusing.{said}
+use Rattle.views.specs.declared.contents.Sort.the-variants.{Integer, Object}
+use Rattle.views.specs.Sorts.{sortOf}
+use Rattle.views.proofs.Inspecting.{inspect-by-sort, integer-in-roots, object-in-roots, object-in-heap, object-answer}
 use borrow.Author.Needs.{needs}
 use Rattle.views.proofs.contents.inspect.Statement.{statement}
 use Rattle.views.proofs.contents.inspect.Tie as tie
 use Rattle.views.proofs.contents.inspect.Reads as reads
 use Rattle.views.proofs.contents.inspect.Lts as lts
-use Rattle.model.proofs.say.Reads as say-reads
 use Rattle.integers.proofs.untag.Reads as untag-reads
-use Rattle.naming.proofs.names.Reads as names-reads
-use Rattle.words.proofs.shape.bad_shape.Reads as bad-shape-reads
+use Rattle.model.proofs.say.Reads as say-reads
+use Rattle.views.proofs.contents.header_of.Reads as header-of-reads
+use Rattle.views.proofs.contents.sort_of.Reads as sort-of-reads
 use Rattle.words.proofs.tuple.Tuple.count_of.Reads as count-of-reads
-use Rattle.words.proofs.tuple.Tuple.index_of.Reads as index-of-reads
 use Rattle.words.proofs.tuple.Tuple.kind_of.Reads as kind-of-reads
 
 -- what the call was lent
 abbrev lent : tie.Start → State
 lent c = stateOf (c .args .heap .now) (c .args .roots .now) (c .args .«record»)
 
--- where the call begins
-abbrev start : tie.Else1 → tie.Start
-start c = c .before .before .before .before
+-- where the call begins, and where the sort is matched
+abbrev start : tie.After-sort-of → tie.Start
+start c = c .before .before .before
 
-shape : (c : tie.Else1) → badShape (lent (start c)) ≡ false
-shape c = sym (c .before .bad-shape .ensures) ∙ c .if1 .left
+abbrev seen-integer : tie.After-enum-told2 → tie.After-sort-of
+seen-integer c = c .before .before
 
--- past the tests of SHAPE and ROOT, at the root's word, and past its tests for a plain value
-abbrev shaped : tie.Else2 → tie.Else1
-shaped c = c .before
+abbrev seen-object : tie.After-enum-told3 → tie.After-sort-of
+seen-object c = c .before .before
 
-abbrev rooted : tie.After-shared-slice-known3 → tie.Else2
-rooted c = c .before
+-- the sort in the two arms that look at the root's word
+of-integer : (c : tie.After-enum-told2) → let s = start (seen-integer c) in
+    Integer ≡ sortOf tuple (s .args .root) (lent s)
+of-integer c = sym (c .enum-told2 .given .1) ∙ seen-integer c .sort-of .ensures
 
-abbrev read : tie.Else4 → tie.After-shared-slice-known3
-read c = c .before .before
+of-object : (c : tie.After-enum-told3) → let s = start (seen-object c) in
+    Object ≡ sortOf tuple (s .args .root) (lent s)
+of-object c = sym (c .enum-told3 .given .1) ∙ seen-object c .sort-of .ensures
 
-abbrev held : tie.Else5 → tie.Else4
-held c = c .before .before
+sort-of-requires : tie.Need-sort-of-requires
+sort-of-requires c κs = search needs
 
-named : (c : tie.Else5) → let s = start (shaped (rooted (read (held c)))) in
-    names tuple (lent s) (rootWord (lent s) (s .args .root)) ≡ true
-named c = sym (c .before .names .ensures _) ∙ not-false _ (c .if5 .left)
-
-below : (c : tie.After-index-of) → let s = start (shaped (rooted (read (held (c .before))))) in
-    c .index-of .result .0 < length (s .args .heap .now)
-below c =
-    let tested = shaped (rooted (read (held (c .before)))) in
-    header-below _ (lent (start tested)) _ _ (c .index-of .ensures) (shape tested) (named (c .before))
-
-bad-shape-requires : tie.Need-bad-shape-requires
-bad-shape-requires c κs = search needs
+enum-told : tie.Need-enum-told
+enum-told c = search needs
 
 say-requires : tie.Need-say-requires
 say-requires c κs = search needs
 
-returns : tie.Need-returns
-unfolding inspect
-returns c =
-    said _ _ (c .say .ensures)
-    (applies _ (sym (c .before .before .bad-shape .ensures) ∙ c .before .if1 .taken))
+enum-told-2 : tie.Need-enum-told-2
+enum-told-2 c = search needs
 
-say-requires-2 : tie.Need-say-requires-2
-say-requires-2 c κs = search needs
+mul-untag : tie.Need-mul-untag
+mul-untag c = let l = integer-in-roots _ _ _ (of-integer c) in search needs
 
-returns-2 : tie.Need-returns-2
-unfolding inspect
-returns-2 c =
-    said _ _ (c .say2 .ensures)
-    (passes _ _ (shape (c .before .before))
-    (applies _ (le-leb _ _ (c .before .if2 .taken))))
-
-mul-word : tie.Need-mul-word
-mul-word c = search needs
-
-shared-slice-read-word : tie.Need-shared-slice-read-word
-shared-slice-read-word c = search needs
+shared-slice-read-untag : tie.Need-shared-slice-read-untag
+shared-slice-read-untag c = integer-in-roots _ _ _ (of-integer (c .before))
 
 untag-requires : tie.Need-untag-requires
 untag-requires c κs = search needs
 
-say-requires-3 : tie.Need-say-requires-3
-say-requires-3 c κs = search needs
+say-requires-2 : tie.Need-say-requires-2
+say-requires-2 c κs = search needs
 
-returns-3 : tie.Need-returns-3
-returns-3 c =
-    let found = rooted (c .before .before .before) in
-    let s = lent (start (shaped found)) in
-    said _ _ (c .say3 .ensures)
-    (ap (λ (v : ℤ). says (Says.Integer v) s) (search needs)
-    ∙ inspect-integer _ s _ (shape (shaped found)) (found .if2 .left) (c .before .before .if3 .taken))
+enum-told-3 : tie.Need-enum-told-3
+enum-told-3 c = search needs
 
-say-requires-4 : tie.Need-say-requires-4
-say-requires-4 c κs = search needs
+mul-header-of : tie.Need-mul-header-of
+mul-header-of c = let l = object-in-roots _ _ _ (of-object c) in search needs
 
-returns-4 : tie.Need-returns-4
-returns-4 c =
-    let found = rooted (c .before .before .before) in
-    said _ _ (c .say4 .ensures)
-    (inspect-null _ (lent (start (shaped found))) _ (shape (shaped found))
-    (found .if2 .left) (c .before .if4 .taken))
+shared-slice-read-header-of : tie.Need-shared-slice-read-header-of
+shared-slice-read-header-of c = object-in-roots _ _ _ (of-object (c .before))
 
-names-requires : tie.Need-names-requires
-names-requires c κs =
-    let tested = shaped (rooted (read c)) in
-    free-in-heap (lent (start tested)) (shape tested)
-
-say-requires-5 : tie.Need-say-requires-5
-say-requires-5 c κs = search needs
-
-returns-5 : tie.Need-returns-5
-returns-5 c =
-    let nonnull = c .before .before .before in
-    let found = rooted (read nonnull) in
-    let s = start (shaped found) in
-    said _ _ (c .say5 .ensures)
-    (inspect-nothing _ (lent s) _ (shape (shaped found))
-    (found .if2 .left) (nonnull .before .if3 .left) (nonnull .if4 .left)
-    (sym (c .before .before .names .ensures (s .args .roots .now)) ∙ not-true _ (c .before .if5 .taken)))
-
-index-of-requires : tie.Need-index-of-requires
-index-of-requires c κs = search needs
-
-mul-header : tie.Need-mul-header
-mul-header c = let b = below c in search needs
-
-shared-slice-read-header : tie.Need-shared-slice-read-header
-shared-slice-read-header c = below (c .before)
+header-of-requires : tie.Need-header-of-requires
+header-of-requires c κs = object-in-heap _ _ _ (of-object (c .before))
 
 kind-of-requires : tie.Need-kind-of-requires
 kind-of-requires c κs = search needs
@@ -148,47 +87,72 @@ kind-of-requires c κs = search needs
 count-of-requires : tie.Need-count-of-requires
 count-of-requires c κs = search needs
 
-cast-count : tie.Need-cast-count
-cast-count c = search needs
+cast-t17 : tie.Need-cast-t17
+cast-t17 c = search needs
 
-say-requires-6 : tie.Need-say-requires-6
-say-requires-6 c κs = search needs
+say-requires-3 : tie.Need-say-requires-3
+say-requires-3 c κs = search needs
 
-returns-6 : tie.Need-returns-6
-returns-6 c =
-    let indexed = c .before .before .before .before in
-    let object = indexed .before in
-    let nonnull = held object in
-    let found = rooted (read nonnull) in
-    said _ _ (c .say6 .ensures)
-    (inspect-object _ (lent (start (shaped found))) _ (shape (shaped found))
-    (found .if2 .left) (nonnull .before .if3 .left) (nonnull .if4 .left) _ _ _
-    (indexed .index-of .ensures) (c .before .before .kind-of .ensures) (c .before .count-of .ensures .0) (named object))
+enum-known-refusal : tie.Need-enum-known-refusal
+enum-known-refusal c = search needs
+
+say-requires-4 : tie.Need-say-requires-4
+say-requires-4 c κs = search needs
+
+returns : tie.Need-returns
+returns c =
+    let matched = c .before in
+    said _ _ (c .say .ensures)
+    (inspect-by-sort _ _ _ (sym (matched .enum-told .given .1) ∙ matched .before .before .sort-of .ensures))
+
+returns-2 : tie.Need-returns-2
+returns-2 c =
+    let matched = c .before .before .before in
+    let s = lent (start (seen-integer matched)) in
+    said _ _ (c .say2 .ensures)
+    (ap (λ (v : ℤ). says (Says.Integer v) s) (search needs) ∙ inspect-by-sort _ _ _ (of-integer matched))
+
+returns-3 : tie.Need-returns-3
+returns-3 c =
+    let counted = c .before in
+    let headed = counted .before .before in
+    let matched = headed .before .before in
+    let s = start (seen-object matched) in
+    said _ _ (c .say3 .ensures)
+    (ap (λ (a : Answer). says a (lent s))
+    (object-answer tuple (s .args .root) (lent s) _ (headed .header-of .ensures) (counted .before .kind-of .ensures)
+    (counted .count-of .ensures .0))
+    ∙ inspect-by-sort _ _ _ (of-object matched))
+
+returns-4 : tie.Need-returns-4
+returns-4 c =
+    let refused = c .before .before in
+    said _ _ (c .say4 .ensures)
+    (inspect-by-sort _ _ _ (sym (refused .refusal .given .1) ∙ refused .before .before .sort-of .ensures))
 
 pub inspect-spec : {M : Type 1} → statement M
 inspect-spec =
     tie.close
     (tie.spec
-    bad-shape-requires
+    sort-of-requires
+    enum-told
     say-requires
-    returns
-    say-requires-2
-    returns-2
-    mul-word
-    shared-slice-read-word
+    enum-told-2
+    mul-untag
+    shared-slice-read-untag
     untag-requires
-    say-requires-3
-    returns-3
-    say-requires-4
-    returns-4
-    names-requires
-    say-requires-5
-    returns-5
-    index-of-requires
-    mul-header
-    shared-slice-read-header
+    say-requires-2
+    enum-told-3
+    mul-header-of
+    shared-slice-read-header-of
+    header-of-requires
     kind-of-requires
     count-of-requires
-    cast-count
-    say-requires-6
-    returns-6)
+    cast-t17
+    say-requires-3
+    enum-known-refusal
+    say-requires-4
+    returns
+    returns-2
+    returns-3
+    returns-4)
