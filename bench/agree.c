@@ -1,5 +1,6 @@
 /* Every contender against the model of tests/c on small heaps at random, sound and damaged: the same verdict, the same
-   words, roots and record; and a check leaves all as it was. */
+   words, roots and record; and a check leaves all as it was. And every twin against its call: the same struct returned,
+   the same words and roots left. */
 #include <stdio.h>
 #include <stdlib.h>
 #include <string.h>
@@ -8,6 +9,7 @@
 #include "../tests/c/random.h"
 #include "baseline.h"
 #include "contenders.h"
+#include "twins.h"
 
 #define MOST_WORDS 81
 #define MOST_ROOTS 6
@@ -66,6 +68,38 @@ static void hold(const struct state *start, int sound, unsigned long heap) {
   }
 }
 
+/* One call of the archive and of its twin, each on a copy of the heap, with the same numbers. */
+#define HOLD_TWIN(type, call, ...)                                                       \
+  do {                                                                                   \
+    struct state one = again(start, words[0], roots[0]), other = again(start, words[1], roots[1]); \
+    phachunoi_heap h = heap_of(&one), g = heap_of(&other);                               \
+    type ours = phachunoi_##call(PHACHUNOI_LENT(&h), __VA_ARGS__);                       \
+    type theirs = twin_##call(PHACHUNOI_LENT(&g), __VA_ARGS__);                          \
+    compare(&other, &one, memcmp(&ours, &theirs, sizeof ours) == 0, "the twin of " #call, heap); \
+  } while (0)
+
+static void hold_twins(const struct state *start, unsigned long heap) {
+  static uint32_t words[2][MOST_WORDS], roots[2][MOST_ROOTS];
+  size_t a = below(MOST_ROOTS + 1), b = below(MOST_ROOTS + 1), field = below(5);
+  int64_t value = (int64_t)(random_bits() >> 32) - 2147483648LL;
+  phachunoi_window window = {0, below(MOST_WORDS), below(8)};
+  phachunoi_answer ours = phachunoi_word(start->heap, start->words, window, field);
+  phachunoi_answer theirs = twin_word(start->heap, start->words, window, field);
+  compare(start, start, memcmp(&ours, &theirs, sizeof ours) == 0, "the twin of word", heap);
+  HOLD_TWIN(phachunoi_result, allocate_traced, field, a);
+  HOLD_TWIN(phachunoi_result, allocate_untraced, 2 * field, a);
+  HOLD_TWIN(phachunoi_answer, set_integer, a, value);
+  HOLD_TWIN(phachunoi_answer, set_null, a);
+  HOLD_TWIN(phachunoi_answer, copy, a, b);
+  HOLD_TWIN(phachunoi_answer, load, a, field, b);
+  HOLD_TWIN(phachunoi_answer, store, a, field, b);
+  HOLD_TWIN(phachunoi_answer, raw_read, a, field);
+  HOLD_TWIN(phachunoi_answer, raw_write, a, field, (uint32_t)value);
+  HOLD_TWIN(phachunoi_answer, same, a, b);
+  HOLD_TWIN(phachunoi_seen, inspect, a);
+  HOLD_TWIN(phachunoi_window, open, a);
+}
+
 int main(int argc, char **argv) {
   static uint32_t words[MOST_WORDS], roots[MOST_ROOTS];
   unsigned long heaps = argc > 1 ? strtoul(argv[1], NULL, 10) : 1000000, sound = 0, i;
@@ -78,6 +112,7 @@ int main(int argc, char **argv) {
     good = model_sound(&s);
     sound += (unsigned long)good;
     hold(&s, good, i);
+    hold_twins(&s, i);
   }
   printf("agree: %lu heaps, %lu of them sound, %lu differences\n", i, sound, differences);
   return differences != 0;

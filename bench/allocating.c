@@ -1,11 +1,11 @@
-/* Allocations that fit: a half is filled with objects of n fields, through the archive's boundary to C and by the
-   baseline. */
+/* Allocations that fit: a half is filled with objects of n fields, by the baseline, by the twin of the exported call
+   and by that call. */
 #include <stdio.h>
 #include <stdlib.h>
 
 #include "baseline.h"
-#include "phachunoi.h"
-#include "rounds.h"
+#include "contenders.h"
+#include "twins.h"
 #include "workloads.h"
 
 #define HALF 65536
@@ -26,20 +26,23 @@ static void run_baseline(struct state *s, size_t times) {
     for (i = 0; i < fill; i++) expect(full_allocate(s, fields, i % ROOTS, 0));
 }
 
-static void run_archive(struct state *s, size_t times) {
+static void run_twin(struct state *s, size_t times) {
   size_t i, fill = HALF / (fields + 1);
-  phachunoi_heap heap;
-  heap.words = s->heap;
-  heap.word_count = s->words;
-  heap.roots = s->roots;
-  heap.root_count = s->root_count;
-  heap.record.half = s->half;
-  heap.record.free = s->free;
-  for (; times > 0; times--, heap.record.free = 1)
-    for (i = 0; i < fill; i++) expect(phachunoi_heap_allocate_traced(&heap, fields, i % ROOTS));
+  phachunoi_heap h = heap_of(s);
+  for (; times > 0; times--, h.record.free = 1)
+    for (i = 0; i < fill; i++)
+      expect(phachunoi_heap_keep(&h, twin_allocate_traced(PHACHUNOI_LENT(&h), fields, i % ROOTS)));
 }
 
-static const struct contender allocators[] = {{"baseline", run_baseline}, {"archive", run_archive}};
+static void run_archive(struct state *s, size_t times) {
+  size_t i, fill = HALF / (fields + 1);
+  phachunoi_heap h = heap_of(s);
+  for (; times > 0; times--, h.record.free = 1)
+    for (i = 0; i < fill; i++) expect(phachunoi_heap_allocate_traced(&h, fields, i % ROOTS));
+}
+
+static const struct contender allocators[] = {
+    {"baseline", run_baseline}, {"twin", run_twin}, {"archive", run_archive}};
 
 int main(int argc, char **argv) {
   static const size_t counts[] = {0, 1, 2, 3, 4, 5, 6, 8, 9, 12, 16, 30, 64, 100, 300, 1000};
@@ -51,7 +54,7 @@ int main(int argc, char **argv) {
   for (i = 0; i < sizeof counts / sizeof *counts; i++) {
     fields = counts[i];
     snprintf(name, sizeof name, "%zu", fields);
-    measure("allocating", name, &start, allocators, 2, rounds_counting() ? 1 : 10);
+    measure("allocating", name, &start, allocators, 3, rounds_counting() ? 1 : 10);
   }
   return 0;
 }

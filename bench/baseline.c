@@ -2,9 +2,7 @@
    left out. In this order: words, (a), the check, (b), (c). */
 #include "baseline.h"
 
-#include <string.h>
-
-#define RARELY(x) __builtin_expect(!!(x), 0)
+#include "rules.h"
 
 enum { SHAPE = 1, ROOT = 2, COUNT = 3, DAMAGED = 8, ROOM = 9 };
 
@@ -15,14 +13,6 @@ static inline uint32_t *at_address(uint32_t *heap, uint32_t address) { return (u
 static inline uint32_t address_of(const uint32_t *heap, const uint32_t *word) {
   return (uint32_t)((const char *)word - (const char *)heap);
 }
-
-static inline uint32_t count_of(uint32_t header) { return (header & 0x7fffffffu) >> 1; }
-
-static inline int is_address(uint32_t word) { return (word & 1) == 0 && word != 0; }
-
-static inline uint32_t half_size(const struct state *s) { return (uint32_t)(s->words - 1) / 2; }
-
-static inline uint32_t first_word(const struct state *s, uint32_t half) { return half ? half_size(s) + 1 : 1; }
 
 /* ---- (a) the copying ---- */
 
@@ -81,7 +71,7 @@ static inline uint32_t *copy_reachable(uint32_t *heap, uint32_t *root, size_t ro
 
 /* Copies to the other half and clears `words` words of this one. */
 static inline uint32_t collect_sound(struct state *s, uint32_t words) {
-  uint32_t *heap = s->heap, old = first_word(s, s->half), new = first_word(s, !s->half);
+  uint32_t *heap = s->heap, old = first_word(s->words, s->half), new = first_word(s->words, !s->half);
   uint32_t *end = copy_reachable(heap, s->roots, s->root_count, heap + new);
   memset(heap + old, 0, words * sizeof *heap);
   s->half = !s->half;
@@ -89,17 +79,13 @@ static inline uint32_t collect_sound(struct state *s, uint32_t words) {
   return s->free - new;
 }
 
-uint32_t bare_collect(struct state *s) { return collect_sound(s, half_size(s)); }
+uint32_t bare_collect(struct state *s) { return collect_sound(s, half_size(s->words)); }
 
-uint32_t bare_collect_used(struct state *s) { return collect_sound(s, s->free - first_word(s, s->half)); }
+uint32_t bare_collect_used(struct state *s) { return collect_sound(s, s->free - first_word(s->words, s->half)); }
 
 /* ---- the check ---- */
 
-static inline int bad_shape(const struct state *s) {
-  uint32_t size = half_size(s);
-  if (s->words % 2 == 0 || s->words - 3 > 2097153 - 3 || s->root_count > 65536 || s->half > 1) return 1;
-  return s->free - (s->half ? size + 1 : 1) > size; /* a free index below the half wraps round */
-}
+static inline int misshapen(const struct state *s) { return bad_shape(s->words, s->root_count, s->half, s->free); }
 
 /* 32 words a turn, one test a turn. */
 static int all_zero(const uint32_t *words, size_t n) {
@@ -163,12 +149,12 @@ static inline int fields_are_values(const struct part *p, int by_word) {
 }
 
 static inline __attribute__((always_inline)) int check_with(struct state *s, int by_word) {
-  uint32_t size = half_size(s), first, sound;
+  uint32_t size = half_size(s->words), first, sound;
   struct part p;
-  if (bad_shape(s)) return 0;
-  first = first_word(s, s->half);
+  if (misshapen(s)) return 0;
+  first = first_word(s->words, s->half);
   p.first = s->heap + first;
-  p.marks = s->heap + first_word(s, !s->half);
+  p.marks = s->heap + first_word(s->words, !s->half);
   p.used = s->free - first;
   p.address = 4 * first;
   if (s->heap[0] || !all_zero(p.marks, size) || !all_zero(s->heap + s->free, size - p.used)) return 0;
@@ -185,14 +171,14 @@ int full_check_words(struct state *s) { return check_with(s, 1); }
 /* ---- (b) the collection with all duties ---- */
 
 uint32_t full_collect(struct state *s) {
-  if (bad_shape(s)) return SHAPE;
+  if (misshapen(s)) return SHAPE;
   if (!full_check(s)) return DAMAGED;
   bare_collect_used(s);
   return 0;
 }
 
 uint32_t full_collect_words(struct state *s) {
-  if (bad_shape(s)) return SHAPE;
+  if (misshapen(s)) return SHAPE;
   if (!full_check_words(s)) return DAMAGED;
   bare_collect_used(s);
   return 0;
@@ -200,48 +186,29 @@ uint32_t full_collect_words(struct state *s) {
 
 /* ---- (c) allocation ---- */
 
-/* Up to four zeros straight, more by the C library. */
-static inline void clear_words(uint32_t *word, uint32_t n) {
-  if (n > 4) {
-    memset(word, 0, n * sizeof *word);
-    return;
-  }
-  if (n == 0) return;
-  word[0] = 0;
-  if (n == 1) return;
-  word[1] = 0;
-  if (n == 2) return;
-  word[2] = 0;
-  if (n == 3) return;
-  word[3] = 0;
-}
-
-static inline uint32_t place(struct state *s, uint32_t n, size_t to, int untraced) {
-  uint32_t free = s->free, *word = s->heap + free;
+static inline uint32_t place_in(struct state *s, uint32_t n, size_t to, int untraced) {
+  uint32_t free = s->free;
   s->free = free + n + 1;
   s->roots[to] = 4 * free;
-  word[0] = (uint32_t)untraced << 31 | n << 1;
-  clear_words(word + 1, n);
+  place(s->heap, free, n, untraced);
   return 0;
 }
 
-static inline int fits(const struct state *s, size_t n) {
-  return n < first_word(s, s->half) + half_size(s) - s->free;
-}
+static inline int fits(const struct state *s, size_t n) { return n < spare(s->words, s->half, s->free); }
 
 static __attribute__((noinline, cold)) uint32_t collect_and_place(struct state *s, size_t n, size_t to, int untraced,
                                                                   int bare) {
   if (bare) bare_collect(s);
   else if (full_collect(s)) return DAMAGED;
-  return fits(s, n) ? place(s, (uint32_t)n, to, untraced) : ROOM;
+  return fits(s, n) ? place_in(s, (uint32_t)n, to, untraced) : ROOM;
 }
 
 static inline uint32_t allocate_with(struct state *s, size_t n, size_t to, int untraced, int bare) {
-  if (RARELY(bad_shape(s))) return SHAPE;
+  if (RARELY(misshapen(s))) return SHAPE;
   if (RARELY(to >= s->root_count)) return ROOT;
   if (RARELY(n > 1073741823)) return COUNT;
   if (RARELY(!fits(s, n))) return collect_and_place(s, n, to, untraced, bare);
-  return place(s, (uint32_t)n, to, untraced);
+  return place_in(s, (uint32_t)n, to, untraced);
 }
 
 uint32_t full_allocate(struct state *s, size_t n, size_t to, int untraced) {

@@ -1,26 +1,29 @@
 #!/bin/sh
 # Builds the programs of bench/ in target/bench.
 #   bench/build.sh count    for x86-64, with the kit's C library: the same instructions on every machine
-#   bench/build.sh time     for this machine's processor, with its C library
+#   bench/build.sh time N   for this machine's processor, with its C library: each linked in N orders
 set -eu
 cd "$(dirname "$0")/.."
 made=target/bench
 words="-std=c99 -O3 -Wall -Wextra -Wpedantic -Werror -Iinclude"
-shared="bench/rounds.c bench/workloads.c bench/contenders.c bench/baseline.c tests/c/random.c"
+shared="bench/rounds.c bench/workloads.c bench/contenders.c bench/baseline.c bench/twins.c bench/nothing.c tests/c/random.c"
 model="tests/c/model.c tests/c/heaps.c"
 
 bench/module.sh
 case $1 in
 count)
-    for program in collecting allocating growth; do
+    for program in collecting calling allocating growth; do
         # shellcheck disable=SC2086
         tools/cc.sh kit-build $made/count-$program $words bench/$program.c $shared $model $made/engine.o $made/libphachunoi.a
     done
     ;;
 time)
-    for program in agree collecting allocating growth; do
+    own="$made/own/engine.o $made/own/library.o"
+    # shellcheck disable=SC2086
+    tools/cc.sh own-build $made/time-agree $words bench/agree.c $shared $model $own
+    for program in collecting calling allocating growth; do
         # shellcheck disable=SC2086
-        tools/cc.sh own-build $made/time-$program $words bench/$program.c $shared $model $made/own/engine.o $made/own/library.o
+        tools/cc.sh own-orders "$2" $made/time-$program $words bench/$program.c $shared $model $own
     done
     libgc="-DWITH_LIBGC -lgc"
     tools/cc.sh has /usr/include/gc.h libgc-dev || {
@@ -28,6 +31,6 @@ time)
         libgc=
     }
     # shellcheck disable=SC2086
-    tools/cc.sh own-build $made/time-trees $words $libgc bench/trees.c $shared $made/own/engine.o $made/own/library.o
+    tools/cc.sh own-orders "$2" $made/time-trees $words $libgc bench/trees.c $shared $own
     ;;
 esac

@@ -5,7 +5,17 @@
 #include <stdlib.h>
 
 #include "baseline.h"
-#include "phachunoi.h"
+
+phachunoi_heap heap_of(const struct state *s) {
+  phachunoi_heap h;
+  h.words = s->heap;
+  h.word_count = s->words;
+  h.roots = s->roots;
+  h.root_count = s->root_count;
+  h.record.half = s->half;
+  h.record.free = s->free;
+  return h;
+}
 
 /* ---- the archive ---- */
 

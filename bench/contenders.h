@@ -2,7 +2,11 @@
 #ifndef CONTENDERS_H
 #define CONTENDERS_H
 
+#include "phachunoi.h"
 #include "rounds.h"
+
+/* A heap in the struct of the header. */
+phachunoi_heap heap_of(const struct state *s);
 
 /* The archive's calls: the refusal, and whether the heap is sound. */
 uint32_t archive_collect(struct state *s);

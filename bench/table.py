@@ -5,14 +5,15 @@
   table.py --join SAID LOG                     a program's tags and the emulator's counts as lines of COUNTS
   table.py --compare STORED COUNTS             which counts differ; the exit status is 1 if any does
 
-A line of COUNTS: subject, workload, contender, instructions of one call. A ratio of times is taken inside a round; a
-run's ratio is the median of its rounds, and what is shown is the middle of the runs.
+A line of COUNTS: subject, workload, contender, instructions of one call. TIMES has a file for each order in which the
+programs were linked. A ratio of times is taken inside a round; an order's ratio is the median of its rounds, and what
+is shown is the median of the orders and, where it says so, the range.
 """
 import statistics
 import sys
 
-WORKLOADS = "tree list graph garbage blocks small empty nulls".split()
-MOSTLY_LIVE = "tree list graph blocks small nulls".split()
+WORKLOADS = "tree list graph garbage blocks strings small empty nulls".split()
+MOSTLY_LIVE = "tree list graph blocks strings small nulls".split()
 
 # Name, of, to, bar of instructions, bar of time, workloads that the bars are for, other bars of time.
 RATIOS = [
@@ -26,7 +27,10 @@ RATIOS = [
     ("(b) / (a)", "full", "bare", None, None, WORKLOADS, {}),
 ]
 NOT_COUNTED = {"collect / (b)": ("blocks", "empty")}  # no bar of instructions while a mark is a word
-ALLOCATE = (1.30, 1.25)
+ALLOCATE = (1.30, 1.25)  # beside (c)
+TWIN = (1.10, 1.15)
+TREE_NODES = (2**15 - 1) / 40 + 2**13 - 1  # of one tree that is dropped, with its share of the live one
+TREE_LIVE = 3 * (2**15 - 1)  # words
 
 
 def read_counts(path):
@@ -55,7 +59,7 @@ def workloads_of(measured, subject):
 
 
 class Measured:
-    """Counts, and the times of some runs."""
+    """Counts, and the times of some runs, one for each link order."""
 
     def __init__(self, counts, runs):
         self.counts, self.runs = counts, runs
@@ -63,8 +67,12 @@ class Measured:
     def count_ratio(self, subject, workload, of, to):
         return self.counts[subject, workload, of] / self.counts[subject, workload, to]
 
+    def own_count(self, subject, workload, of):
+        """Without what a call that does nothing costs."""
+        return self.counts[subject, workload, of] - self.counts[subject, workload, "nothing"]
+
     def time_ratios(self, subject, workload, of, to):
-        """The ratio of each run, rising."""
+        """The ratio of each order, rising."""
         return sorted(
             statistics.median(x / y for x, y in zip(run[subject, workload, of], run[subject, workload, to]))
             for run in self.runs
@@ -101,15 +109,35 @@ def collecting(ratio, which):
     print()
 
 
+def ranged(m, subject, workload, of, to, bar):
+    each = m.time_ratios(subject, workload, of, to)
+    return "%s %.2f-%.2f" % (cell(statistics.median(each), bar), each[0], each[-1])
+
+
+def calling(m):
+    """Each exported call and its twin. The instructions are the call's own: one that does nothing is taken off."""
+    timed = "time: ratio, range, ns" if m.runs else ""
+    print("%-20s%8s%9s%8s   %s" % ("call / twin", "twin", "archive", "ratio", timed))
+    for w in workloads_of(m.counts, "calling"):
+        twin, archive = (m.own_count("calling", w, c) for c in ("twin", "archive"))
+        ratio = cell(archive / twin, TWIN[0]) if twin > 2 else "      - "
+        line = "%-20s%8.0f%9.0f%s" % (w, twin, archive, ratio)
+        if m.runs:
+            ratios = ranged(m, "calling", w, "archive", "twin", TWIN[1])
+            line += "   %s %6.2f" % (ratios, m.time("calling", w, "archive"))
+        print(line)
+    print()
+
+
 def allocating(m):
     fields = workloads_of(m.counts, "allocating")
-    print("allocate / (c), by fields " + "".join("%7s " % n for n in fields))
-    shown = [("  instructions", m.count_ratio, ALLOCATE[0])]
-    shown += [("  time", m.time_ratio, ALLOCATE[1])] if m.runs else []
-    for name, ratio, bar in shown:
-        row(name, [cell(ratio("allocating", n, "archive", "baseline"), bar) for n in fields], bar)
+    print("allocate, by fields        " + "".join("%7s " % n for n in fields))
+    for name, other, bars in ("twin", "twin", TWIN), ("(c)", "baseline", ALLOCATE):
+        shown = [("instructions", m.count_ratio, bars[0])] + ([("time", m.time_ratio, bars[1])] if m.runs else [])
+        for what, ratio, bar in shown:
+            row("  %s / %s" % (what, name), [cell(ratio("allocating", n, "archive", other), bar) for n in fields], bar)
     objects = {n: 65536 // (int(n) + 1) for n in fields}
-    for contender in "baseline", "archive":
+    for contender in "baseline", "twin", "archive":
         each = [m.counts["allocating", n, contender] / objects[n] for n in fields]
         row("  instructions, " + contender, ["%7.1f " % x for x in each], None)
         if m.runs:
@@ -144,19 +172,25 @@ def growth(m):
     print()
 
 
+def contenders_of(m, subject, workload):
+    return [c for s, w, c in m.runs[0] if (s, w) == (subject, workload)]
+
+
 def peers(m):
-    for subject, workload, unit, divide in (
-        ("full-collection", "tree", "ms, one full collection of a live tree of depth 16", 1e6),
-        ("trees", "262144", "ns a node, binary trees, S = 262144", (2**15 - 1) / 40 + 2**13 - 1),
-        ("trees", "1048576", "ns a node, binary trees, S = 1048576", (2**15 - 1) / 40 + 2**13 - 1),
-    ):
-        ours = "collect" if subject == "full-collection" else "archive"
-        said = [
-            "%s %.2f (%.2f)" % (c, m.time(subject, workload, c) / divide, m.time_ratio(subject, workload, c, ours))
-            for s, w, c in m.runs[0]
-            if (s, w) == (subject, workload)
-        ]
-        print("%s, and the ratio to the archive:\n  %s" % (unit, ", ".join(sorted(said))))
+    print("One full collection of a live tree of depth 16, ms:")
+    each = contenders_of(m, "full-collection", "tree")
+    print("  " + ", ".join("%s %.2f" % (c, m.time("full-collection", "tree", c) / 1e6) for c in each))
+    print("Binary trees, ns a node; the archive's ratio to each other, with its range; bar 1.00 beside malloc and")
+    print("libgc from S = %d, four times the live words:" % (4 * TREE_LIVE))
+    for half in workloads_of(m.runs[0], "trees"):
+        bar = 1.00 if int(half) >= 4 * TREE_LIVE else None
+        said = ["archive %.1f" % (m.time("trees", half, "archive") / TREE_NODES)]
+        for c in contenders_of(m, "trees", half):
+            if c != "archive":
+                own = bar if c in ("malloc", "libgc") else None
+                ratio = ranged(m, "trees", half, "archive", c, own)
+                said.append("%s %.1f:%s" % (c, m.time("trees", half, c) / TREE_NODES, ratio))
+        print("  S = %-8s %s" % (half, ", ".join(said)))
 
 
 def tables(m):
@@ -166,9 +200,9 @@ def tables(m):
     print("check of an empty heap: %.2f instructions a word read, bar 1.40%s\n" % (words, "!" if words > 1.4 else ""))
     if m.runs:
         rounds = len(next(iter(m.runs[0].values())))
-        print("Time, as ratios: the middle of %d runs of %d rounds." % (len(m.runs), rounds))
+        print("Time, as ratios: the median of %d link orders, %d rounds each." % (len(m.runs), rounds))
         collecting(m.time_ratio, 1)
-        print("Between the lowest and the highest run:")
+        print("Between the lowest and the highest order:")
         for name, of, to, *_ in RATIOS:
             each = [m.time_ratios("collecting", w, of, to) for w in WORKLOADS]
             print("%-27s%s" % (name, " ".join("%.2f-%.2f" % (r[0], r[-1]) for r in each)))
@@ -177,6 +211,7 @@ def tables(m):
             each = [(3 if w == "small" else 0, m.time("collecting", w, c) / 1e3) for w in WORKLOADS]
             print("%-27s%s" % (c, "".join("%7.*f " % pair for pair in each)))
         print()
+    calling(m)
     allocating(m)
     growth(m)
     if m.runs:
@@ -218,8 +253,10 @@ def panel(top, title, names, counted, timed, bars, highest=1.75):
             said.append(column(x, up(value), base, wide - 1, colour))
             inside = value > 0.3
             ink = "white" if inside else INK
-            said.append(text(x + wide / 2, base - (6 if inside else 3), "%.2f" % value, 9, "middle", ink))
-        said.append(text(middle, base + 15, name, 11))
+            small = 9 if len(names) < 18 else 7
+            said.append(text(x + wide / 2, base - (6 if inside else 3), "%.2f" % value, small, "middle", ink))
+        size, row = (11, 0) if len(names) < 18 else (9, i % 2)  # many names stand in two rows
+        said.append(text(middle, base + 15 + 11 * row, name, size))
     for bar, colour in zip(bars, (INSTRUCTIONS, TIME)):
         dashed = 'stroke-dasharray="5 4" stroke-width="1.5"'
         said.append(line(left, up(bar), left + width, up(bar), colour, dashed))
@@ -264,10 +301,16 @@ def picture(m):
         timed = [m.time_ratio("collecting", w, of, to) for w in WORKLOADS]
         said += panel(top, title, WORKLOADS, counted, timed, bars)
         top += 205
+    calls = [w for w in workloads_of(m.counts, "calling") if w != "version"]
+    counted = [m.own_count("calling", w, "archive") / m.own_count("calling", w, "twin") for w in calls]
+    timed = [m.time_ratio("calling", w, "archive", "twin") for w in calls]
+    names = [w.replace("_", " ") for w in calls]
+    said += panel(top, "each exported call / its twin in C", names, counted, timed, TWIN)
+    top += 205
     fields = workloads_of(m.counts, "allocating")
-    counted = [m.count_ratio("allocating", n, "archive", "baseline") for n in fields]
-    timed = [m.time_ratio("allocating", n, "archive", "baseline") for n in fields]
-    said += panel(top, "allocate / (c): bump allocation in C, by fields", fields, counted, timed, ALLOCATE)
+    counted = [m.count_ratio("allocating", n, "archive", "twin") for n in fields]
+    timed = [m.time_ratio("allocating", n, "archive", "twin") for n in fields]
+    said += panel(top, "allocate / its twin in C, by fields", fields, counted, timed, TWIN)
     top += 205
     said += growth_panel(top, m)
     head = [text(60, 28, "The archive beside C: ratios, less is better; dashed lines are the bars", 16, "start")]

@@ -5,7 +5,6 @@
 
 #include "baseline.h"
 #include "contenders.h"
-#include "phachunoi.h"
 #include "workloads.h"
 
 #ifdef WITH_LIBGC
@@ -53,10 +52,8 @@ static void grow_in_archive(phachunoi_heap *heap, unsigned depth, size_t to) {
 }
 
 static void run_archive(struct state *s, size_t times) {
-  phachunoi_heap heap = {s->heap, s->words, s->roots, s->root_count, {0, 0}};
+  phachunoi_heap heap = heap_of(s);
   size_t i;
-  heap.record.half = s->half;
-  heap.record.free = s->free;
   grow_in_archive(&heap, LIVE_DEPTH, 0);
   for (i = 0; i < times; i++) grow_in_archive(&heap, DEPTH, 1);
 }
@@ -142,12 +139,14 @@ static void measure_full_collection(void) {
 }
 
 int main(int argc, char **argv) {
+  static const size_t halves[] = {262144, 393216, 524288, 1048576};
   struct state start;
-  size_t half;
+  size_t half, i;
   char name[20];
   rounds_begin(argc, argv);
   measure_full_collection();
-  for (half = 262144; half <= 1048576; half *= 4) {
+  for (i = 0; i < sizeof halves / sizeof *halves; i++) {
+    half = halves[i];
     empty_heap(&start, half, ROOTS);
     snprintf(name, sizeof name, "%zu", half);
     measure("trees", name, &start, builders, sizeof builders / sizeof *builders, TREES);

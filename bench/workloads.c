@@ -130,6 +130,23 @@ static void blocks(struct state *s) {
   s->roots[3] = 4 * table;
 }
 
+/* A list of strings: untraced objects of 5 to 40 words, each named by a pair. */
+static void strings(struct state *s) {
+  uint32_t pair, string, rest = 0, k, n;
+  empty_heap(s, 1048576, 4);
+  random_seed(4);
+  while (s->free + 44 <= 1048576) {
+    n = 5 + below(36);
+    string = object(s, n, 1);
+    for (k = 1; k <= n; k++) s->heap[string + k] = (uint32_t)random_bits();
+    pair = object(s, 2, 0);
+    s->heap[pair + 1] = 4 * string;
+    s->heap[pair + 2] = rest;
+    rest = 4 * pair;
+  }
+  s->roots[0] = rest;
+}
+
 /* ---- heaps at the limits ---- */
 
 /* S = 64: a list of eight objects of two to four fields, a block of raw words and four words of garbage. */
@@ -156,6 +173,6 @@ static void nulls(struct state *s) {
 
 const struct workload workloads[] = {
     {"tree", tree16, 1},   {"list", list200k, 1},    {"graph", graph, 1}, {"garbage", garbage, 1},
-    {"blocks", blocks, 1}, {"small", small, 100000}, {"empty", empty, 1}, {"nulls", nulls, 1},
+    {"blocks", blocks, 1}, {"strings", strings, 1}, {"small", small, 100000}, {"empty", empty, 1}, {"nulls", nulls, 1},
 };
 const size_t workload_count = sizeof workloads / sizeof *workloads;

@@ -15,6 +15,7 @@
 #                                          bench/icount.c counts
 #   tools/cc.sh has FILE PACKAGE           whether a file is there, once its Debian package may have been installed
 #   tools/cc.sh own-build OUT WORDS..      as kit-build, but for this machine's processor and with its C library
+#   tools/cc.sh own-orders N OUT WORDS..   N such programs, OUT.1 to OUT.N, that differ in the order of their objects
 set -u
 
 die() {
@@ -117,6 +118,22 @@ build_for_here() {
     cc -o "$out" $objects $archives
 }
 
+# From one program to the next the first object goes last, so that each function lies elsewhere.
+build_orders_for_here() {
+    orders=$1 order=1
+    shift
+    compile_each compile_by_kit_for_here "$@"
+    while [ $order -le "$orders" ]; do
+        # shellcheck disable=SC2086
+        cc -o "$out.$order" $objects $archives || exit 1
+        # shellcheck disable=SC2086
+        set -- $objects
+        first=$1
+        shift
+        objects="$* $first"
+        order=$((order + 1))
+    done
+}
 
 # -cpu Nehalem: the C library then clears words by plain stores, which the emulator counts as a processor would run them.
 count_by_plugin() {
@@ -154,5 +171,6 @@ aarch64-pace) echo emulated ;;
 *-kit-build) build_for_x86 compile_by_kit "$@" ;;
 *-kit-count) count_by_plugin "$@" ;;
 *-own-build) build_for_here "$@" ;;
+*-own-orders) build_orders_for_here "$@" ;;
 *) die "no way is known to do '$what' on $machine" ;;
 esac
