@@ -68,14 +68,15 @@ static void hold(const struct state *start, int sound, unsigned long heap) {
   }
 }
 
-/* One call of the archive and of its twin, each on a copy of the heap, with the same numbers. */
-#define HOLD_TWIN(type, call, ...)                                                       \
-  do {                                                                                   \
-    struct state one = again(start, words[0], roots[0]), other = again(start, words[1], roots[1]); \
-    phachunoi_heap h = heap_of(&one), g = heap_of(&other);                               \
-    type ours = phachunoi_##call(PHACHUNOI_LENT(&h), __VA_ARGS__);                       \
-    type theirs = twin_##call(PHACHUNOI_LENT(&g), __VA_ARGS__);                          \
-    compare(&other, &one, memcmp(&ours, &theirs, sizeof ours) == 0, "the twin of " #call, heap); \
+/* One call of the archive and of its twin, each on a copy of the heap, with the same numbers; `h` is the copy. */
+#define HOLD_TWIN(type, call, arguments)                                                                            \
+  do {                                                                                                              \
+    struct state one = again(start, words[0], roots[0]), other = again(start, words[1], roots[1]);                  \
+    phachunoi_heap first = heap_of(&one), second = heap_of(&other), *h = &first;                                    \
+    type ours = phachunoi_##call arguments, theirs;                                                                 \
+    h = &second;                                                                                                    \
+    theirs = twin_##call arguments;                                                                                 \
+    compare(&other, &one, memcmp(&ours, &theirs, sizeof ours) == 0, "the twin of " #call, heap);                    \
   } while (0)
 
 static void hold_twins(const struct state *start, unsigned long heap) {
@@ -83,21 +84,22 @@ static void hold_twins(const struct state *start, unsigned long heap) {
   size_t a = below(MOST_ROOTS + 1), b = below(MOST_ROOTS + 1), field = below(5);
   int64_t value = (int64_t)(random_bits() >> 32) - 2147483648LL;
   phachunoi_window window = {0, below(MOST_WORDS), below(8)};
-  phachunoi_answer ours = phachunoi_word(start->heap, start->words, window, field);
-  phachunoi_answer theirs = twin_word(start->heap, start->words, window, field);
-  compare(start, start, memcmp(&ours, &theirs, sizeof ours) == 0, "the twin of word", heap);
-  HOLD_TWIN(phachunoi_result, allocate_traced, field, a);
-  HOLD_TWIN(phachunoi_result, allocate_untraced, 2 * field, a);
-  HOLD_TWIN(phachunoi_answer, set_integer, a, value);
-  HOLD_TWIN(phachunoi_answer, set_null, a);
-  HOLD_TWIN(phachunoi_answer, copy, a, b);
-  HOLD_TWIN(phachunoi_answer, load, a, field, b);
-  HOLD_TWIN(phachunoi_answer, store, a, field, b);
-  HOLD_TWIN(phachunoi_answer, raw_read, a, field);
-  HOLD_TWIN(phachunoi_answer, raw_write, a, field, (uint32_t)value);
-  HOLD_TWIN(phachunoi_answer, same, a, b);
-  HOLD_TWIN(phachunoi_seen, inspect, a);
-  HOLD_TWIN(phachunoi_window, open, a);
+  HOLD_TWIN(phachunoi_result, fresh, (h->words, h->word_count, h->record));
+  HOLD_TWIN(phachunoi_answer, check, (PHACHUNOI_LENT(h)));
+  HOLD_TWIN(phachunoi_collected, collect, (PHACHUNOI_LENT(h)));
+  HOLD_TWIN(phachunoi_result, allocate_traced, (PHACHUNOI_LENT(h), field, a));
+  HOLD_TWIN(phachunoi_result, allocate_untraced, (PHACHUNOI_LENT(h), 2 * field, a));
+  HOLD_TWIN(phachunoi_answer, set_integer, (PHACHUNOI_LENT(h), a, value));
+  HOLD_TWIN(phachunoi_answer, set_null, (PHACHUNOI_LENT(h), a));
+  HOLD_TWIN(phachunoi_answer, copy, (PHACHUNOI_LENT(h), a, b));
+  HOLD_TWIN(phachunoi_answer, load, (PHACHUNOI_LENT(h), a, field, b));
+  HOLD_TWIN(phachunoi_answer, store, (PHACHUNOI_LENT(h), a, field, b));
+  HOLD_TWIN(phachunoi_answer, raw_read, (PHACHUNOI_LENT(h), a, field));
+  HOLD_TWIN(phachunoi_answer, raw_write, (PHACHUNOI_LENT(h), a, field, (uint32_t)value));
+  HOLD_TWIN(phachunoi_answer, same, (PHACHUNOI_LENT(h), a, b));
+  HOLD_TWIN(phachunoi_seen, inspect, (PHACHUNOI_LENT(h), a));
+  HOLD_TWIN(phachunoi_window, open, (PHACHUNOI_LENT(h), a));
+  HOLD_TWIN(phachunoi_answer, word, (h->words, h->word_count, window, field));
 }
 
 int main(int argc, char **argv) {

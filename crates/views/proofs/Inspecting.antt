@@ -1,6 +1,6 @@
 -- What inspect says of a root, by what the root holds; and what its word is where it holds an integer or an object.
 use Prim.Native.Nat.{ℕ, _<_}
-use mathlib.Core.Path.{_≡_, refl, sym, ap, _∙_}
+use mathlib.Core.Path.{_≡_, refl, sym, ap, _∙_, subst}
 use mathlib.Core.Bool.{Bool, true, false, not, cond}
 use lib.Dec.{leb}
 use lib.ListN.{length}
@@ -17,7 +17,6 @@ use Rattle.model.specs.Shape.{badShape}
 use Rattle.model.specs.Answers.{Outcome, says, refuse, told}
 use Rattle.model.specs.Changes.{rootWord}
 use Rattle.model.specs.Calls.{inspect}
-use Rattle.model.proofs.Tests.{never}
 use Rattle.naming.proofs.NamedObjects.{header-below}
 use Rattle.views.specs.declared.contents.Sort.{Sort}
 use Rattle.views.specs.declared.contents.Sort.the-variants.{Null, Integer, Object, Refused}
@@ -30,18 +29,20 @@ sorted shape root odd null named =
     (cond root (Refused Why.Root)
     (cond odd Integer (cond null Null (cond (not named) (Refused Why.Object) Object))))
 
--- whether a sort says that there is such a root; and that its word names an object
-abbrev ofRoot : Sort → Bool
-ofRoot Null = true
-ofRoot Integer = true
-ofRoot Object = true
-ofRoot (Refused k) = false
+-- what a sort says of the tests: there is such a root where it holds an integer or an object, and an object is named
+abbrev Known : Bool → Bool → Bool → Sort → Type 0
+Known shape root named Null = Unit {0}
+Known shape root named Integer = root ≡ false
+Known shape root named Object = (shape ≡ false) × (root ≡ false) × (named ≡ true)
+Known shape root named (Refused k) = Unit {0}
 
-abbrev ofObject : Sort → Bool
-ofObject Null = false
-ofObject Integer = false
-ofObject Object = true
-ofObject (Refused k) = false
+known : (shape root odd null named : Bool) → Known shape root named (sorted shape root odd null named)
+known true _ _ _ _ = tt
+known false true _ _ _ = tt
+known false false true _ _ = refl
+known false false false true _ = tt
+known false false false false true = (refl, refl, refl)
+known false false false false false = tt
 
 module _ (Y : Layout) (r : ℕ) (s : State) where
   -- the sort by its tests
@@ -80,41 +81,22 @@ module _ (Y : Layout) (r : ℕ) (s : State) where
   pub told-by-sort : {x : Sort} → x ≡ sortOf Y r s → told (answerOf x) ≡ told (inspect Y r s .answer)
   told-by-sort e = ap (λ (o : Outcome State). told (o .answer)) (inspect-by-sort e)
 
-  -- there is such a root where its word is an integer's or an object's
-  in-roots : {x : Sort} → x ≡ sortOf Y r s → ofRoot x ≡ true → r < length (s .roots)
+  by-sort : {x : Sort} → x ≡ sortOf Y r s
+      → Known (badShape s) (leb (length (s .roots)) r) (names Y s (rootWord s r)) x
   unfolding sortOf
-  in-roots e h =
-      leb-false _ _
-      (by-tests (badShape s) (leb (length (s .roots)) r) (isOdd (rootWord s r)) (isNull (rootWord s r)) (names Y s (rootWord s r))
-      (ap ofRoot (sym e) ∙ h))
-    where
-      by-tests : (shape root odd null named : Bool) → ofRoot (sorted shape root odd null named) ≡ true → root ≡ false
-      by-tests true _ _ _ _ h = never h refl
-      by-tests false true _ _ _ h = never h refl
-      by-tests false false _ _ _ h = refl
+  by-sort e =
+      subst (Known (badShape s) (leb (length (s .roots)) r) (names Y s (rootWord s r))) (sym e)
+      (known (badShape s) (leb (length (s .roots)) r) (isOdd (rootWord s r)) (isNull (rootWord s r)) (names Y s (rootWord s r)))
 
   pub integer-in-roots : Integer ≡ sortOf Y r s → r < length (s .roots)
-  integer-in-roots e = in-roots e refl
+  integer-in-roots e = leb-false _ _ (by-sort e)
 
   pub object-in-roots : Object ≡ sortOf Y r s → r < length (s .roots)
-  object-in-roots e = in-roots e refl
+  object-in-roots e = leb-false _ _ (by-sort e .1)
 
   -- and an object lies in the heap
   pub object-in-heap : Object ≡ sortOf Y r s → index Y (rootWord s r) < length (s .heap)
-  unfolding sortOf
-  object-in-heap e =
-      let o = by-tests (badShape s) (leb (length (s .roots)) r) (isOdd (rootWord s r)) (isNull (rootWord s r))
-      (names Y s (rootWord s r)) (ap ofObject (sym e)) in
-      header-below Y s (rootWord s r) _ refl (o .0) (o .1)
-    where
-      by-tests : (shape root odd null named : Bool) → ofObject (sorted shape root odd null named) ≡ true
-          → (shape ≡ false) × (named ≡ true)
-      by-tests true _ _ _ _ h = never h refl
-      by-tests false true _ _ _ h = never h refl
-      by-tests false false true _ _ h = never h refl
-      by-tests false false false true _ h = never h refl
-      by-tests false false false false true h = (refl, refl)
-      by-tests false false false false false h = never h refl
+  object-in-heap e = let k = by-sort e in header-below Y s (rootWord s r) _ refl (k .0) (k .2)
 
   -- the answer of an object, by its header as the code has it
   pub object-answer : {k : Kind} {n : ℕ} (header : ℕ) → header ≡ at (s .heap) (index Y (rootWord s r))
