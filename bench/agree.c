@@ -5,6 +5,7 @@
 #include <stdlib.h>
 #include <string.h>
 
+#include "../tests/c/codes.h"
 #include "../tests/c/heaps.h"
 #include "../tests/c/random.h"
 #include "baseline.h"
@@ -83,6 +84,7 @@ static void hold_twins(const struct state *start, unsigned long heap) {
   static uint32_t words[2][MOST_WORDS], roots[2][MOST_ROOTS];
   size_t a = below(MOST_ROOTS + 1), b = below(MOST_ROOTS + 1), field = below(5);
   int64_t value = (int64_t)(random_bits() >> 32) - 2147483648LL;
+  uint32_t code = asked_code();
   phachunoi_window window = {0, below(MOST_WORDS), below(8)};
   HOLD_TWIN(phachunoi_result, fresh, (h->words, h->word_count, h->record));
   HOLD_TWIN(phachunoi_answer, check, (PHACHUNOI_LENT(h)));
@@ -91,6 +93,7 @@ static void hold_twins(const struct state *start, unsigned long heap) {
   HOLD_TWIN(phachunoi_result, allocate_untraced, (PHACHUNOI_LENT(h), 2 * field, a));
   HOLD_TWIN(phachunoi_answer, set_integer, (PHACHUNOI_LENT(h), a, value));
   HOLD_TWIN(phachunoi_answer, set_null, (PHACHUNOI_LENT(h), a));
+  HOLD_TWIN(phachunoi_answer, set_code, (PHACHUNOI_LENT(h), a, code));
   HOLD_TWIN(phachunoi_answer, copy, (PHACHUNOI_LENT(h), a, b));
   HOLD_TWIN(phachunoi_answer, load, (PHACHUNOI_LENT(h), a, field, b));
   HOLD_TWIN(phachunoi_answer, store, (PHACHUNOI_LENT(h), a, field, b));

@@ -1,4 +1,5 @@
-/* What the archive is held against: collectors, checks and an allocation in C, written from document 01 alone. */
+/* What the archive is held against: collectors, checks and an allocation in C, written from documents 01
+   and 02 alone. */
 #ifndef BASELINE_H
 #define BASELINE_H
 

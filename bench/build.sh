@@ -7,7 +7,7 @@ cd "$(dirname "$0")/.."
 made=target/bench
 words="-std=c99 -O3 -Wall -Wextra -Wpedantic -Werror -Iinclude"
 shared="bench/rounds.c bench/workloads.c bench/contenders.c bench/baseline.c bench/twins.c bench/nothing.c tests/c/random.c"
-model="tests/c/model.c tests/c/heaps.c"
+model="tests/c/model.c tests/c/heaps.c tests/c/codes.c"
 
 bench/module.sh
 case $1 in

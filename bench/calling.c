@@ -6,8 +6,8 @@
 #include "twins.h"
 #include "workloads.h"
 
-/* Roots: a pair of null and the integer 7, that integer, three raw words, null. */
-enum { PAIR, SEVEN, RAW, NONE, ROOTS = 8, HALF = 64 };
+/* Roots: a pair of null and the integer 7, that integer, three raw words, null, a code word. */
+enum { PAIR, SEVEN, RAW, NONE, CODE, ROOTS = 8, HALF = 64 };
 
 static void expect(uint32_t refusal) {
   if (refusal == 0) return;
@@ -23,6 +23,7 @@ static void make(struct state *s) {
   expect(phachunoi_heap_allocate_untraced(&h, 3, RAW));
   expect(phachunoi_heap_set_integer(&h, SEVEN, 7));
   expect(phachunoi_heap_store(&h, PAIR, 1, SEVEN));
+  expect(phachunoi_heap_set_code(&h, CODE, PHACHUNOI_CODE_FLOOR));
   s->free = h.record.free;
 }
 
@@ -47,6 +48,7 @@ THREE(allocate_untraced, allocate_untraced(PHACHUNOI_LENT(&h), 2, NONE).refusal)
 THREE(set_integer, set_integer(PHACHUNOI_LENT(&h), SEVEN, (int64_t)times).refusal)
 THREE(set_negative, set_integer(PHACHUNOI_LENT(&h), SEVEN, -(int64_t)times).refusal)
 THREE(set_null, set_null(PHACHUNOI_LENT(&h), NONE).refusal)
+THREE(set_code, set_code(PHACHUNOI_LENT(&h), CODE, PHACHUNOI_CODE_FLOOR + 2 * (uint32_t)times).refusal)
 THREE(copy, copy(PHACHUNOI_LENT(&h), SEVEN, NONE).refusal)
 THREE(same, same(PHACHUNOI_LENT(&h), PAIR, SEVEN).refusal)
 THREE(load, load(PHACHUNOI_LENT(&h), PAIR, times % 2, NONE).refusal)
@@ -55,6 +57,7 @@ THREE(raw_read, raw_read(PHACHUNOI_LENT(&h), RAW, times % 2).refusal)
 THREE(raw_write, raw_write(PHACHUNOI_LENT(&h), RAW, times % 2, (uint32_t)times).refusal)
 THREE(inspect_null, inspect(PHACHUNOI_LENT(&h), NONE).refusal)
 THREE(inspect_integer, inspect(PHACHUNOI_LENT(&h), SEVEN).refusal)
+THREE(inspect_code, inspect(PHACHUNOI_LENT(&h), CODE).refusal)
 THREE(inspect_object, inspect(PHACHUNOI_LENT(&h), RAW).refusal)
 THREE(open, open(PHACHUNOI_LENT(&h), PAIR).refusal)
 
@@ -89,10 +92,11 @@ static const struct {
   const char *name;
   struct contender sides[3];
 } calls[] = {
-    NAMED(version),      NAMED(fresh),           NAMED(check),          NAMED(collect),      NAMED(allocate_traced),
-    NAMED(set_integer),  NAMED(set_negative),    NAMED(set_null),       NAMED(copy),         NAMED(allocate_untraced),
-    NAMED(load),         NAMED(store),           NAMED(raw_read),       NAMED(raw_write),    NAMED(same),
-    NAMED(inspect_null), NAMED(inspect_integer), NAMED(inspect_object), NAMED(open),         NAMED(word),
+    NAMED(version),           NAMED(fresh),        NAMED(check),           NAMED(collect),      NAMED(allocate_traced),
+    NAMED(set_integer),       NAMED(set_negative), NAMED(set_null),        NAMED(set_code),     NAMED(copy),
+    NAMED(allocate_untraced), NAMED(load),         NAMED(store),           NAMED(raw_read),     NAMED(raw_write),
+    NAMED(same),              NAMED(inspect_null), NAMED(inspect_integer), NAMED(inspect_code), NAMED(inspect_object),
+    NAMED(open),              NAMED(word),
 };
 
 int main(int argc, char **argv) {

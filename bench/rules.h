@@ -1,4 +1,4 @@
-/* Document 01's words and tests in plain C, for the baselines and the twins. */
+/* The words and tests of documents 01 and 02 in plain C, for the baselines and the twins. */
 #ifndef RULES_H
 #define RULES_H
 
@@ -10,7 +10,11 @@
 
 static inline uint32_t count_of(uint32_t header) { return (header & 0x7fffffffu) >> 1; }
 
-static inline int is_address(uint32_t word) { return (word & 1) == 0 && word != 0; }
+#define CODE_FLOOR 16777216u
+
+static inline int is_code(uint32_t word) { return (word & 1) == 0 && word >= CODE_FLOOR; }
+
+static inline int is_address(uint32_t word) { return (word & 1) == 0 && word != 0 && word < CODE_FLOOR; }
 
 static inline uint32_t half_size(size_t words) { return (uint32_t)(words - 1) / 2; }
 

@@ -1,4 +1,4 @@
-/* The twins: plain C, as fast as it goes with every test of document 01. */
+/* The twins: plain C, as fast as it goes with every test of documents 01 and 02. */
 #include "twins.h"
 
 #include "baseline.h"
@@ -112,6 +112,16 @@ phachunoi_answer twin_set_null(const uint32_t *heap, size_t word_count, uint32_t
   return answered(PHACHUNOI_DONE, 0);
 }
 
+phachunoi_answer twin_set_code(const uint32_t *heap, size_t word_count, uint32_t *roots, size_t root_count,
+                               phachunoi_record record, size_t to, uint32_t word) {
+  uint32_t refusal = refusal_of_roots(word_count, root_count, record, to, to);
+  (void)heap;
+  if (RARELY(refusal)) return answered(refusal, 0);
+  if (RARELY(!is_code(word))) return answered(PHACHUNOI_RANGE, 0);
+  roots[to] = word;
+  return answered(PHACHUNOI_DONE, 0);
+}
+
 phachunoi_answer twin_copy(const uint32_t *heap, size_t word_count, uint32_t *roots, size_t root_count,
                            phachunoi_record record, size_t from, size_t to) {
   uint32_t refusal = refusal_of_roots(word_count, root_count, record, from, to);
@@ -188,7 +198,7 @@ phachunoi_answer twin_raw_write(uint32_t *heap, size_t word_count, const uint32_
 
 phachunoi_seen twin_inspect(const uint32_t *heap, size_t word_count, const uint32_t *roots, size_t root_count,
                             phachunoi_record record, size_t root) {
-  phachunoi_seen s = {refusal_of_roots(word_count, root_count, record, root, root), 0, 0, 0};
+  phachunoi_seen s = {refusal_of_roots(word_count, root_count, record, root, root), 0, 0, 0, 0};
   uint32_t word;
   if (RARELY(s.refusal)) return s;
   word = roots[root];
@@ -198,6 +208,11 @@ phachunoi_seen twin_inspect(const uint32_t *heap, size_t word_count, const uint3
     return s;
   }
   if (word == 0) return s;
+  if (is_code(word)) {
+    s.kind = PHACHUNOI_CODE;
+    s.code = word;
+    return s;
+  }
   if (RARELY(!names(heap, first_word(word_count, record.half), record.free, word))) {
     s.refusal = PHACHUNOI_OBJECT;
     return s;

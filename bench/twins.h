@@ -1,6 +1,6 @@
 /* A twin in C of each exported call: the same words lent, the same tests in the same order, the same struct returned,
-   written from document 01 alone. And a call that does nothing, by the name and type of each: what it costs is what the
-   arguments, the call, the return and a loop around them cost. */
+   written from documents 01 and 02 alone. And a call that does nothing, by the name and type of each: what it costs is
+   what the arguments, the call, the return and a loop around them cost. */
 #ifndef TWINS_H
 #define TWINS_H
 
@@ -20,6 +20,8 @@ phachunoi_answer twin_set_integer(const uint32_t *heap, size_t word_count, uint3
                                   phachunoi_record record, size_t to, int64_t value);
 phachunoi_answer twin_set_null(const uint32_t *heap, size_t word_count, uint32_t *roots, size_t root_count,
                                phachunoi_record record, size_t to);
+phachunoi_answer twin_set_code(const uint32_t *heap, size_t word_count, uint32_t *roots, size_t root_count,
+                               phachunoi_record record, size_t to, uint32_t word);
 phachunoi_answer twin_copy(const uint32_t *heap, size_t word_count, uint32_t *roots, size_t root_count,
                            phachunoi_record record, size_t from, size_t to);
 phachunoi_answer twin_load(const uint32_t *heap, size_t word_count, uint32_t *roots, size_t root_count,
@@ -40,7 +42,7 @@ phachunoi_answer twin_word(const uint32_t *heap, size_t word_count, phachunoi_wi
 
 #define EACH_CALL(of)                                                                                                \
   of(version) of(fresh) of(check) of(collect) of(allocate_traced) of(allocate_untraced) of(set_integer) of(set_null) \
-  of(copy) of(load) of(store) of(raw_read) of(raw_write) of(same) of(inspect) of(open) of(word)
+  of(set_code) of(copy) of(load) of(store) of(raw_read) of(raw_write) of(same) of(inspect) of(open) of(word)
 #define NOTHING(call) extern __typeof__(phachunoi_##call) nothing_##call;
 EACH_CALL(NOTHING)
 

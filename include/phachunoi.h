@@ -11,9 +11,10 @@
  * words 1 to S, half B is words S + 1 to 2S. One half is current, the other idle. Roots are 0 to PHACHUNOI_MAX_ROOTS
  * words. A word of a root, or of a field of a traced object, is a value:
  *
- *     odd             the integer v, as 2v + 1
- *     0               null
- *     other even      the address of an object: 4 times the index of its header
+ *     odd                                      the integer v, as 2v + 1
+ *     0                                        null
+ *     even, from PHACHUNOI_CODE_FLOOR up       a code word: the host's own, never followed, never changed
+ *     other even                               the address of an object: 4 times the index of its header
  *
  *     header    31  30 ................ 1  0       bit 31: 1 for an untraced object, whose fields are raw words
  *               u   n, the count of fields  0      the n fields are the words after the header
@@ -44,15 +45,16 @@ extern "C" {
 /* ---- Part 1: limits and numbers ------------------------------------------------------------------------------- */
 
 #define PHACHUNOI_VERSION_MAJOR 0
-#define PHACHUNOI_VERSION_MINOR 2
+#define PHACHUNOI_VERSION_MINOR 3
 #define PHACHUNOI_VERSION_PATCH 0
-#define PHACHUNOI_VERSION_NUMBER 2000 /* major * 1000000 + minor * 1000 + patch */
+#define PHACHUNOI_VERSION_NUMBER 3000 /* major * 1000000 + minor * 1000 + patch */
 
 #define PHACHUNOI_MAX_HALF 1048576u /* words in a half, S */
 #define PHACHUNOI_MAX_ROOTS 65536u
 #define PHACHUNOI_MAX_FIELDS 1073741823u
 #define PHACHUNOI_INTEGER_MIN (-1073741824)
 #define PHACHUNOI_INTEGER_MAX 1073741823
+#define PHACHUNOI_CODE_FLOOR 16777216u /* every even word from here up is a code word */
 #define PHACHUNOI_WORDS(S) (2u * (size_t)(S) + 1u) /* words to lend for halves of S */
 
 /* Why a call was refused. The lowest number that applies is given. Refusals 1 to 8 change no word, no root and no
@@ -64,7 +66,8 @@ enum phachunoi_refusal {
                             record's half is neither A nor B; or its free index lies outside the half */
   PHACHUNOI_ROOT = 2,    /* a root number is not below the number of roots */
   PHACHUNOI_COUNT = 3,   /* more than 1,073,741,823 fields are asked for */
-  PHACHUNOI_RANGE = 4,   /* an integer is below -1,073,741,824 or above 1,073,741,823 */
+  PHACHUNOI_RANGE = 4,   /* an integer is below -1,073,741,824 or above 1,073,741,823; or a word to be set as a code
+                            word is odd or below 16,777,216 */
   PHACHUNOI_OBJECT = 5,  /* the root that must name an object does not */
   PHACHUNOI_KIND = 6,    /* a traced call on an untraced object, or the reverse */
   PHACHUNOI_FIELD = 7,   /* the field number is not below the object's count of fields */
@@ -75,7 +78,13 @@ enum phachunoi_refusal {
 enum phachunoi_half { PHACHUNOI_A = 0, PHACHUNOI_B = 1 };
 
 /* What a root holds. */
-enum phachunoi_kind { PHACHUNOI_NULL = 0, PHACHUNOI_INTEGER = 1, PHACHUNOI_TRACED = 2, PHACHUNOI_UNTRACED = 3 };
+enum phachunoi_kind {
+  PHACHUNOI_NULL = 0,
+  PHACHUNOI_INTEGER = 1,
+  PHACHUNOI_TRACED = 2,
+  PHACHUNOI_UNTRACED = 3,
+  PHACHUNOI_CODE = 4
+};
 
 /* ---- Part 2: what the calls return ---------------------------------------------------------------------------- */
 
@@ -107,12 +116,14 @@ typedef struct phachunoi_answer {
   uint32_t value;
 } phachunoi_answer;
 
-/* The answer of inspect: `integer` counts for an integer, `count` (of fields) for an object; else they are 0. */
+/* The answer of inspect: `integer` counts for an integer, `count` (of fields) for an object, `code` for a code word;
+   else they are 0. Refusal and kind have 16 bits each, so that the struct is returned in two registers. */
 typedef struct phachunoi_seen {
-  uint32_t refusal;
-  uint32_t kind;
+  uint16_t refusal;
+  uint16_t kind;
   int32_t integer;
   uint32_t count;
+  uint32_t code;
 } phachunoi_seen;
 
 /* A window on an object: its fields are heap[first] to heap[first + count - 1]. A refused window has no words. */
@@ -122,16 +133,18 @@ typedef struct phachunoi_window {
   uint32_t count;
 } phachunoi_window;
 
-/* The archive lays these out in 32-bit entries with no gaps; a compiler that does otherwise stops here. */
+/* The archive lays these out as written, in entries of 32 bits and of 16, with no gaps; a compiler that does otherwise
+   stops here. */
 typedef char phachunoi_layout_as_in_the_archive
     [sizeof(phachunoi_record) == 8 && offsetof(phachunoi_record, free) == 4 && sizeof(phachunoi_result) == 16 &&
              offsetof(phachunoi_result, value) == 4 && offsetof(phachunoi_result, record) == 8 &&
              sizeof(phachunoi_collected) == 16 && offsetof(phachunoi_collected, live) == 4 &&
              offsetof(phachunoi_collected, record) == 8 && sizeof(phachunoi_answer) == 8 &&
              offsetof(phachunoi_answer, value) == 4 && sizeof(phachunoi_seen) == 16 &&
-             offsetof(phachunoi_seen, kind) == 4 && offsetof(phachunoi_seen, integer) == 8 &&
-             offsetof(phachunoi_seen, count) == 12 && sizeof(phachunoi_window) == 12 &&
-             offsetof(phachunoi_window, first) == 4 && offsetof(phachunoi_window, count) == 8 && sizeof(size_t) == 8
+             offsetof(phachunoi_seen, kind) == 2 && offsetof(phachunoi_seen, integer) == 4 &&
+             offsetof(phachunoi_seen, count) == 8 && offsetof(phachunoi_seen, code) == 12 &&
+             sizeof(phachunoi_window) == 12 && offsetof(phachunoi_window, first) == 4 &&
+             offsetof(phachunoi_window, count) == 8 && sizeof(size_t) == 8
          ? 1
          : -1];
 
@@ -152,8 +165,8 @@ PHACHUNOI_API uint32_t phachunoi_version(void);
 PHACHUNOI_API phachunoi_result phachunoi_fresh(uint32_t *heap, size_t word_count, phachunoi_record record);
 
 /* Is the heap sound? value is 1 if it is, 0 if not. Sound: no SHAPE; word 0 is 0; the idle half and the free words are
-   0; objects fill the used words exactly; each root and each field of a traced object is an integer, null or the
-   address of one of those objects. It may mark in an idle half that is all 0, but no word differs afterwards.
+   0; objects fill the used words exactly; each root and each field of a traced object is an integer, null, a code word
+   or the address of one of those objects. It may mark in an idle half that is all 0, but no word differs afterwards.
    Refusals: SHAPE. */
 PHACHUNOI_API phachunoi_answer phachunoi_check(uint32_t *heap, size_t word_count, const uint32_t *roots,
                                                size_t root_count, phachunoi_record record);
@@ -184,6 +197,12 @@ PHACHUNOI_API phachunoi_answer phachunoi_set_integer(const uint32_t *heap, size_
 PHACHUNOI_API phachunoi_answer phachunoi_set_null(const uint32_t *heap, size_t word_count, uint32_t *roots,
                                                   size_t root_count, phachunoi_record record, size_t to);
 
+/* Root `to` becomes the code word `word`, any even word from PHACHUNOI_CODE_FLOOR up: a host's function, by number.
+   Looks at no heap word. Refusals: SHAPE, ROOT, RANGE. */
+PHACHUNOI_API phachunoi_answer phachunoi_set_code(const uint32_t *heap, size_t word_count, uint32_t *roots,
+                                                  size_t root_count, phachunoi_record record, size_t to,
+                                                  uint32_t word);
+
 /* Root `to` gets the word of root `from`, whatever it is. Looks at no heap word. Refusals: SHAPE, ROOT. */
 PHACHUNOI_API phachunoi_answer phachunoi_copy(const uint32_t *heap, size_t word_count, uint32_t *roots,
                                               size_t root_count, phachunoi_record record, size_t from, size_t to);
@@ -212,12 +231,13 @@ PHACHUNOI_API phachunoi_answer phachunoi_raw_write(uint32_t *heap, size_t word_c
                                                    size_t root_count, phachunoi_record record, size_t object,
                                                    size_t field, uint32_t number);
 
-/* value is 1 if the two roots hold equal words (the same integer, null, or the same object), else 0. Changes nothing
-   and looks at no heap word. Refusals: SHAPE, ROOT. */
+/* value is 1 if the two roots hold equal words (the same integer, null, the same code word, or the same object), else
+   0. Changes nothing and looks at no heap word. Refusals: SHAPE, ROOT. */
 PHACHUNOI_API phachunoi_answer phachunoi_same(const uint32_t *heap, size_t word_count, const uint32_t *roots,
                                               size_t root_count, phachunoi_record record, size_t one, size_t other);
 
-/* What a root holds. Changes nothing. Refusals: SHAPE, ROOT, OBJECT (an even word, not 0, that names no object). */
+/* What a root holds. Changes nothing.
+   Refusals: SHAPE, ROOT, OBJECT (an even word, not 0 and no code word, that names no object). */
 PHACHUNOI_API phachunoi_seen phachunoi_inspect(const uint32_t *heap, size_t word_count, const uint32_t *roots,
                                                size_t root_count, phachunoi_record record, size_t root);
 
@@ -255,7 +275,7 @@ static inline const char *phachunoi_refusal_text(uint32_t refusal) {
   case PHACHUNOI_SHAPE: return "shape: the lengths or the record are not those of a heap";
   case PHACHUNOI_ROOT: return "root: there is no root of that number";
   case PHACHUNOI_COUNT: return "count: more fields than an object can have";
-  case PHACHUNOI_RANGE: return "range: the integer is too large or too small";
+  case PHACHUNOI_RANGE: return "range: the integer is too large or too small, or the word is no code word";
   case PHACHUNOI_OBJECT: return "object: the root names no object";
   case PHACHUNOI_KIND: return "kind: the object is of the other kind, traced or untraced";
   case PHACHUNOI_FIELD: return "field: the object has no field of that number";
@@ -323,6 +343,10 @@ static inline enum phachunoi_refusal phachunoi_heap_set_integer(phachunoi_heap *
 
 static inline enum phachunoi_refusal phachunoi_heap_set_null(phachunoi_heap *h, size_t to) {
   return phachunoi_heap_said(phachunoi_set_null(PHACHUNOI_LENT(h), to));
+}
+
+static inline enum phachunoi_refusal phachunoi_heap_set_code(phachunoi_heap *h, size_t to, uint32_t word) {
+  return phachunoi_heap_said(phachunoi_set_code(PHACHUNOI_LENT(h), to, word));
 }
 
 static inline enum phachunoi_refusal phachunoi_heap_copy(phachunoi_heap *h, size_t from, size_t to) {

@@ -152,10 +152,10 @@ static inline void phachunoi_show_shape(const phachunoi_shown *s) {
 }
 
 /* Where the equal words that start at `from` end; the next index, if they are too few to be shown as one. Addresses are
-   never taken together, since each has an edge of its own. */
+   never taken together, since each has an edge of its own; code words have none. */
 static inline uint32_t phachunoi_show_run(const uint32_t *words, uint32_t from, uint32_t end, int raw) {
   uint32_t i = from + 1;
-  if (words[from] % 2 == 0 && words[from] != 0 && !raw) return i;
+  if (words[from] % 2 == 0 && words[from] != 0 && words[from] < PHACHUNOI_CODE_FLOOR && !raw) return i;
   while (i < end && words[i] == words[from]) i++;
   return i - from < PHACHUNOI_SHOW_FOLD ? from + 1 : i;
 }
@@ -166,6 +166,7 @@ static inline void phachunoi_show_value(phachunoi_shown *s, uint32_t word) {
   if (word == 0) fputs("null", s->out);
   else if (word % 2 == 1)
     fprintf(s->out, "integer %ld", (long)((int64_t)(word >> 1) - (word >> 31 != 0 ? 2147483648 : 0)));
+  else if (word >= PHACHUNOI_CODE_FLOOR) fprintf(s->out, "code %lu", (unsigned long)word);
   else if (phachunoi_show_names(s, word)) fprintf(s->out, "object at %lu", at);
   else {
     s->troubles++;

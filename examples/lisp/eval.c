@@ -123,23 +123,20 @@ static enum fault call_closure(struct lisp *l, slot closure, slot form, slot env
 
 /* A list is a call: its head decides how. `form` and `env` are eval's own slots and may be written. */
 static enum fault eval_call(struct lisp *l, slot form, slot env, slot to, int *again) {
-  slot mark = height(l), head, number;
-  enum type type;
+  slot mark = height(l), head;
   *again = 0;
   TRY(push(l, &head));
-  TRY(push(l, &number));
   TRY(car(l, form, head));
   TRY(eval(l, head, env, head));
   TRY(cdr(l, form, form));
-  type = type_of(l, head);
-  if (type != CLOSURE && type != PRIMITIVE && type != SPECIAL) return NOT_A_FUNCTION;
-  if (type == CLOSURE) {
-    TRY(call_closure(l, head, form, env, to, again));
-  } else {
-    TRY(get(l, head, BUILT_IN_NUMBER, number));
-    if (type == PRIMITIVE) TRY(eval_arguments(l, form, env));
-    if (type == PRIMITIVE) TRY(call_primitive(l, integer_of(l, number), form, to));
-    else TRY(special_form(l, integer_of(l, number), form, env, to, again));
+  switch (type_of(l, head)) {
+  case CLOSURE: TRY(call_closure(l, head, form, env, to, again)); break;
+  case SPECIAL: TRY(special_form(l, built_in_of(l, head), form, env, to, again)); break;
+  case PRIMITIVE:
+    TRY(eval_arguments(l, form, env));
+    TRY(call_primitive(l, built_in_of(l, head), form, to));
+    break;
+  default: return NOT_A_FUNCTION;
   }
   pop_to(l, mark);
   return FINE;

@@ -3,8 +3,11 @@
  * The roots are its stack. C code never holds a value or an address: it holds slots, which are root numbers, and every
  * value that it still needs stands in a slot. So a collection may happen at any allocation, and does.
  *
- * A slot's value is null (the empty list, which is also false), an integer, or an object:
+ * A slot's value is null (the empty list, which is also false), an integer, a code word or an object:
  *
+ *     built-in   a code word, with no object behind it: primitive n is PHACHUNOI_CODE_FLOOR + 2n, special form n is
+ *                SPECIAL_FLOOR + 2n. Both are functions of C, numbered each by their own table. A closure is an object,
+ *                so that inspect alone tells it from them.
  *     string     untraced: the count of bytes, then the bytes, four to a word
  *     others     traced: field 0 is the type as an integer, the further fields are those named below
  *
@@ -17,16 +20,17 @@
 #include "phachunoi.h"
 
 enum type {
-  NIL, INTEGER, STRING, /* told by the word or the kind of object */
-  PAIR, SYMBOL, CLOSURE, BINDING, PRIMITIVE, SPECIAL, VECTOR
+  NIL, INTEGER, PRIMITIVE, SPECIAL, STRING, /* told by the word or the kind of object */
+  PAIR, SYMBOL, CLOSURE, BINDING, VECTOR
 };
+
+#define SPECIAL_FLOOR (PHACHUNOI_CODE_FLOOR + 65536u) /* the code words below it are primitives */
 
 /* Field numbers; 0 is the type. A symbol holds its global value, so that looking one up takes no search. */
 enum { CAR = 1, CDR = 2 };
 enum { SYMBOL_NAME = 1, SYMBOL_BOUND = 2, SYMBOL_VALUE = 3 };
 enum { CLOSURE_PARAMETERS = 1, CLOSURE_BODY = 2, CLOSURE_ENVIRONMENT = 3 };
 enum { BINDING_SYMBOL = 1, BINDING_VALUE = 2, BINDING_NEXT = 3 }; /* an environment is a chain of these */
-enum { BUILT_IN_NUMBER = 1 };                                     /* of a primitive or a special form */
 
 enum fault {
   FINE = 0, NO_ROOM, STACK_FULL, BAD_TEXT, UNBOUND, NOT_A_FUNCTION, WRONG_TYPE, WRONG_COUNT, OUT_OF_RANGE, BROKEN
@@ -60,12 +64,14 @@ void pop_to(struct lisp *l, slot height); /* the slots from there on are no root
 enum fault copy(struct lisp *l, slot from, slot to);
 enum fault set_nil(struct lisp *l, slot to);
 enum fault set_integer(struct lisp *l, slot to, int64_t value);
+enum fault set_built_in(struct lisp *l, slot to, enum type type, int64_t number); /* PRIMITIVE or SPECIAL */
 enum fault get(struct lisp *l, slot object, size_t field, slot to);
 enum fault put(struct lisp *l, slot object, size_t field, slot from);
 
 enum type type_of(struct lisp *l, slot s);
 enum fault want(struct lisp *l, slot s, enum type type); /* WRONG_TYPE unless it is of that type */
 int64_t integer_of(struct lisp *l, slot s);
+int64_t built_in_of(struct lisp *l, slot s); /* the number of a primitive or a special form, in its table */
 size_t field_count(struct lisp *l, slot s); /* without the type */
 int same(struct lisp *l, slot one, slot other);
 

@@ -13,19 +13,16 @@ static char text[1 << 16];
 static const char *const faults[] = {"fine",           "no room",    "stack full",  "bad text",     "unbound name",
                                      "not a function", "wrong type", "wrong count", "out of range", "broken"};
 
-/* Defines every built-in of one type: a primitive or a special form is an object with its number. */
+/* Defines every built-in of one type, a primitive or a special form, as the value of its name. */
 static enum fault define_built_ins(struct lisp *l, enum type type, const char *(*name_of)(int64_t)) {
-  slot mark = height(l), symbol, object, number;
+  slot mark = height(l), symbol, built_in;
   int64_t i;
   TRY(push(l, &symbol));
-  TRY(push(l, &object));
-  TRY(push(l, &number));
+  TRY(push(l, &built_in));
   for (i = 0; name_of(i) != NULL; i++) {
     TRY(intern(l, name_of(i), strlen(name_of(i)), symbol));
-    TRY(make(l, type, 1, object));
-    TRY(set_integer(l, number, i));
-    TRY(put(l, object, BUILT_IN_NUMBER, number));
-    TRY(define(l, symbol, object));
+    TRY(set_built_in(l, built_in, type, i));
+    TRY(define(l, symbol, built_in));
   }
   pop_to(l, mark);
   return FINE;

@@ -38,6 +38,12 @@ enum fault set_integer(struct lisp *l, slot to, int64_t value) {
   return fault_of(phachunoi_heap_set_integer(&l->heap, to, value));
 }
 
+static uint32_t first_code(enum type type) { return type == SPECIAL ? SPECIAL_FLOOR : PHACHUNOI_CODE_FLOOR; }
+
+enum fault set_built_in(struct lisp *l, slot to, enum type type, int64_t number) {
+  return fault_of(phachunoi_heap_set_code(&l->heap, to, first_code(type) + 2 * (uint32_t)number));
+}
+
 enum fault get(struct lisp *l, slot object, size_t field, slot to) {
   return fault_of(phachunoi_heap_load(&l->heap, object, field, to));
 }
@@ -62,8 +68,10 @@ static enum type type_in(struct lisp *l, slot s) {
 }
 
 enum type type_of(struct lisp *l, slot s) {
-  switch (phachunoi_heap_inspect(&l->heap, s).kind) {
+  phachunoi_seen seen = phachunoi_heap_inspect(&l->heap, s);
+  switch (seen.kind) {
   case PHACHUNOI_INTEGER: return INTEGER;
+  case PHACHUNOI_CODE: return seen.code < SPECIAL_FLOOR ? PRIMITIVE : SPECIAL;
   case PHACHUNOI_UNTRACED: return STRING;
   case PHACHUNOI_TRACED: return type_in(l, s);
   default: return NIL;
@@ -73,6 +81,10 @@ enum type type_of(struct lisp *l, slot s) {
 enum fault want(struct lisp *l, slot s, enum type type) { return type_of(l, s) == type ? FINE : WRONG_TYPE; }
 
 int64_t integer_of(struct lisp *l, slot s) { return phachunoi_heap_inspect(&l->heap, s).integer; }
+
+int64_t built_in_of(struct lisp *l, slot s) {
+  return (phachunoi_heap_inspect(&l->heap, s).code - first_code(type_of(l, s))) / 2;
+}
 
 size_t field_count(struct lisp *l, slot s) {
   size_t count = phachunoi_heap_inspect(&l->heap, s).count;

@@ -4,31 +4,31 @@
 #define LENT(s) (s)->heap, (s)->words, (s)->roots, (s)->root_count, record
 
 static struct said kept(struct state *s, phachunoi_result r) {
-  struct said said = {r.refusal, r.value, 0, 0, 0, 0};
+  struct said said = {r.refusal, r.value, 0, 0, 0, 0, 0};
   s->half = r.record.half;
   s->free = r.record.free;
   return said;
 }
 
 static struct said collected(struct state *s, phachunoi_collected r) {
-  struct said said = {r.refusal, r.live, 0, 0, 0, 0};
+  struct said said = {r.refusal, r.live, 0, 0, 0, 0, 0};
   s->half = r.record.half;
   s->free = r.record.free;
   return said;
 }
 
 static struct said answered(phachunoi_answer a) {
-  struct said said = {a.refusal, a.value, 0, 0, 0, 0};
+  struct said said = {a.refusal, a.value, 0, 0, 0, 0, 0};
   return said;
 }
 
 static struct said seen(phachunoi_seen a) {
-  struct said said = {a.refusal, 0, a.kind, a.integer, a.count, 0};
+  struct said said = {a.refusal, 0, a.kind, a.integer, a.count, 0, a.code};
   return said;
 }
 
 static struct said opened(phachunoi_window a) {
-  struct said said = {a.refusal, 0, 0, 0, a.count, a.first};
+  struct said said = {a.refusal, 0, 0, 0, a.count, a.first, 0};
   return said;
 }
 
@@ -38,7 +38,7 @@ static phachunoi_window window_of(const struct call *c) {
 }
 
 static struct said plain_call(struct state *s, const struct call *c) {
-  struct said nothing = {0, 0, 0, 0, 0, 0};
+  struct said nothing = {0, 0, 0, 0, 0, 0, 0};
   phachunoi_record record = {s->half, s->free};
   switch (c->op) {
   case FRESH: return kept(s, phachunoi_fresh(s->heap, s->words, record));
@@ -48,6 +48,7 @@ static struct said plain_call(struct state *s, const struct call *c) {
   case NEW_UNTRACED: return kept(s, phachunoi_allocate_untraced(LENT(s), c->b, c->a));
   case SET_INTEGER: return answered(phachunoi_set_integer(LENT(s), c->a, c->integer));
   case SET_NULL: return answered(phachunoi_set_null(LENT(s), c->a));
+  case SET_CODE: return answered(phachunoi_set_code(LENT(s), c->a, c->number));
   case COPY: return answered(phachunoi_copy(LENT(s), c->a, c->c));
   case LOAD: return answered(phachunoi_load(LENT(s), c->a, c->b, c->c));
   case STORE: return answered(phachunoi_store(LENT(s), c->a, c->b, c->c));
@@ -69,6 +70,7 @@ static uint32_t struct_refusal(phachunoi_heap *h, const struct call *c) {
   case NEW_UNTRACED: return phachunoi_heap_allocate_untraced(h, c->b, c->a);
   case SET_INTEGER: return phachunoi_heap_set_integer(h, c->a, c->integer);
   case SET_NULL: return phachunoi_heap_set_null(h, c->a);
+  case SET_CODE: return phachunoi_heap_set_code(h, c->a, c->number);
   case COPY: return phachunoi_heap_copy(h, c->a, c->c);
   case LOAD: return phachunoi_heap_load(h, c->a, c->b, c->c);
   case STORE: return phachunoi_heap_store(h, c->a, c->b, c->c);
@@ -77,7 +79,7 @@ static uint32_t struct_refusal(phachunoi_heap *h, const struct call *c) {
 }
 
 static struct said struct_answer(phachunoi_heap *h, const struct call *c) {
-  struct said said = {0, 77, 0, 0, 0, 0}; /* 77: an answer that is not written shows */
+  struct said said = {0, 77, 0, 0, 0, 0, 0}; /* 77: an answer that is not written shows */
   int yes = 77;
   switch (c->op) {
   case CHECK: said.refusal = phachunoi_heap_check(h, &yes); break;

@@ -3,6 +3,7 @@
 
 #include <string.h>
 
+#include "codes.h"
 #include "random.h"
 
 struct call call_of(enum op op, size_t a, size_t b, size_t c) {
@@ -18,6 +19,12 @@ struct call call_of(enum op op, size_t a, size_t b, size_t c) {
 struct call set_integer_of(size_t to, int64_t value) {
   struct call call = call_of(SET_INTEGER, to, 0, 0);
   call.integer = value;
+  return call;
+}
+
+struct call set_code_of(size_t to, uint32_t word) {
+  struct call call = call_of(SET_CODE, to, 0, 0);
+  call.number = word;
   return call;
 }
 
@@ -46,13 +53,16 @@ static uint32_t header_at(const struct state *s, size_t r) {
   return word % 4 == 0 && word / 4 < s->words ? s->heap[word / 4] : 0;
 }
 
-/* A root for a field call: one that names an object with fields of the right kind, if a few tries find it. */
+static int holds_code(const struct state *s, size_t r) { return r < s->root_count && model_is_code(s->roots[r]); }
+
+/* A root for a field call: one that names an object with fields of the right kind, now and then one that holds a code
+   word, if a few tries find it. */
 static size_t object_root(const struct state *s, int raw) {
   size_t r = root_number(s);
-  int tries;
+  int code = one_in(12), tries;
   for (tries = 0; tries < 6; tries++, r = root_number(s)) {
     uint32_t header = header_at(s, r);
-    if (header > 1 && (header >> 31 != 0) == (raw != 0)) return r;
+    if (code ? holds_code(s, r) : header > 1 && (header >> 31 != 0) == (raw != 0)) return r;
   }
   return r;
 }
@@ -105,7 +115,7 @@ static void random_window(const struct state *s, struct call *c) {
 }
 
 static enum op random_op(void) {
-  static const uint8_t weights[OPS] = {1, 4, 4, 40, 16, 12, 4, 12, 24, 32, 12, 12, 8, 12, 8, 8};
+  static const uint8_t weights[OPS] = {1, 4, 4, 40, 16, 12, 4, 12, 12, 24, 32, 12, 12, 8, 12, 8, 8};
   uint32_t left, op = 0, total = 0;
   for (op = 0; op < OPS; op++) total += weights[op];
   left = below(total);
@@ -121,7 +131,7 @@ struct call random_call(const struct state *s) {
   c.c = root_number(s);
   if (c.op == LOAD || c.op == STORE || raw) c.b = field_number(s, c.a);
   if (c.op == SET_INTEGER) c.integer = integer();
-  c.number = (uint32_t)random_bits();
+  c.number = c.op == SET_CODE ? asked_code() : (uint32_t)random_bits();
   if (c.op == WORD) random_window(s, &c);
   return c;
 }

@@ -6,6 +6,7 @@
 
 struct call call_of(enum op op, size_t a, size_t b, size_t c); /* plain arguments; numbers 0 */
 struct call set_integer_of(size_t to, int64_t value);
+struct call set_code_of(size_t to, uint32_t word);
 struct call random_call(const struct state *s);
 
 #endif

@@ -1,14 +1,14 @@
-/* The object graph: nodes in a row, never freed. A value is null, a number or a node; no word, no address. */
+/* The object graph: nodes in a row, never freed. A value is null, a number, a code word or a node; no address. */
 #include "graph.h"
 
 #include <stdlib.h>
 #include <string.h>
 
-enum { NIL, NUMBER, NODE }; /* what a value is */
+enum { NIL, NUMBER, CODE, NODE }; /* what a value is */
 
 struct value {
   int what;
-  int64_t is; /* the integer, or the node's number */
+  int64_t is; /* the integer, the code word, or the node's number */
 };
 
 struct node {
@@ -112,6 +112,14 @@ static uint32_t set_null(size_t to) {
   return 0;
 }
 
+static uint32_t set_code(size_t to, uint32_t word) {
+  if (to >= root_count) return 2;
+  if (word % 2 == 1 || word < 16777216) return 4;
+  roots[to].what = CODE;
+  roots[to].is = word;
+  return 0;
+}
+
 static uint32_t two_roots(const struct call *c, uint32_t *value) {
   if (c->a >= root_count || c->c >= root_count) return 2;
   if (c->op == COPY) roots[c->c] = roots[c->a];
@@ -120,9 +128,10 @@ static uint32_t two_roots(const struct call *c, uint32_t *value) {
 }
 
 struct said graph_holds(size_t root) {
-  struct said r = {0, 0, 0, 0, 0, 0};
+  struct said r = {0, 0, 0, 0, 0, 0, 0};
   if (root >= root_count) return r.refusal = 2, r;
   if (roots[root].what == NUMBER) return r.kind = 1, r.integer = (int32_t)roots[root].is, r;
+  if (roots[root].what == CODE) return r.kind = 4, r.code = (uint32_t)roots[root].is, r;
   if (roots[root].what == NIL) return r;
   r.kind = nodes[roots[root].is].untraced ? 3 : 2;
   r.count = nodes[roots[root].is].count;
@@ -130,7 +139,7 @@ struct said graph_holds(size_t root) {
 }
 
 struct said graph_call(const struct call *c) {
-  struct said r = {0, 0, 0, 0, 0, 0};
+  struct said r = {0, 0, 0, 0, 0, 0, 0};
   switch (c->op) {
   case CHECK: r.value = 1; break;
   case COLLECT: r.value = graph_live(); break;
@@ -138,6 +147,7 @@ struct said graph_call(const struct call *c) {
   case NEW_UNTRACED: r.refusal = new_node(c->a, c->b, c->op == NEW_UNTRACED); break;
   case SET_INTEGER: r.refusal = set_integer(c->a, c->integer); break;
   case SET_NULL: r.refusal = set_null(c->a); break;
+  case SET_CODE: r.refusal = set_code(c->a, c->number); break;
   case COPY:
   case SAME: r.refusal = two_roots(c, &r.value); break;
   case LOAD:

@@ -3,6 +3,7 @@
 
 #include <string.h>
 
+#include "codes.h"
 #include "random.h"
 
 static uint32_t objects[1048576]; /* indexes of the headers written so far */
@@ -24,6 +25,7 @@ static void write_objects(struct state *s, uint32_t end) {
 
 static uint32_t value(void) {
   if (object_count > 0 && !one_in(3)) return 4 * objects[below(object_count)];
+  if (one_in(3)) return code_word();
   return one_in(4) ? 0 : (uint32_t)random_bits() | 1;
 }
 
@@ -46,15 +48,16 @@ void sound_heap(struct state *s) {
   for (r = 0; r < s->root_count; r++) s->roots[r] = value();
 }
 
-/* A bit of a word, mostly of the used part. */
-static void flip(struct state *s) {
+/* A bit of a word, or all of it, mostly of the used part. */
+static void spoil(struct state *s) {
   uint32_t at = one_in(3) || s->free >= s->words ? below((uint32_t)s->words) : below(s->free + 1);
-  if (s->words > 0 && at < s->words) s->heap[at] ^= 1u << below(32);
+  if (s->words > 0 && at < s->words) s->heap[at] = one_in(4) ? around_floor() : s->heap[at] ^ 1u << below(32);
 }
 
-/* A word that is almost an address. */
-static uint32_t near_address(const struct state *s) {
+/* A word that is almost an address, or almost a code word. */
+static uint32_t near_value(const struct state *s) {
   uint32_t word = 4 * below((uint32_t)s->words + 2);
+  if (one_in(6)) return around_floor();
   return one_in(4) ? word + 2 : word;
 }
 
@@ -63,22 +66,22 @@ void damage(struct state *s) {
   case 0: s->free += below(5) - 2; break;
   case 1: s->half = one_in(4) ? below(5) : 1 - s->half; break;
   case 2:
-    if (s->root_count > 0) s->roots[below((uint32_t)s->root_count)] = near_address(s);
+    if (s->root_count > 0) s->roots[below((uint32_t)s->root_count)] = near_value(s);
     break;
   case 3:
-    if (s->words > 0) s->heap[below((uint32_t)s->words)] = near_address(s);
+    if (s->words > 0) s->heap[below((uint32_t)s->words)] = near_value(s);
     break;
   case 4:
     if (s->words > 0) s->heap[below((uint32_t)s->words)] = 2 * below(8);
     break;
-  default: flip(s);
+  default: spoil(s);
   }
 }
 
 void noise(struct state *s) {
   size_t i;
-  for (i = 0; i < s->words; i++) s->heap[i] = one_in(2) ? below(16) : near_address(s);
-  for (i = 0; i < s->root_count; i++) s->roots[i] = near_address(s);
+  for (i = 0; i < s->words; i++) s->heap[i] = one_in(2) ? below(16) : near_value(s);
+  for (i = 0; i < s->root_count; i++) s->roots[i] = near_value(s);
   s->half = below(2);
   s->free = below((uint32_t)s->words + 2);
 }

@@ -11,7 +11,9 @@ static struct lent ours, theirs, before; /* the model's side, the archive's, and
 static const char *part = "";
 static uint64_t calls, checks, differences, collections;
 static uint64_t met[10]; /* answers by refusal, 0 for none: a run that never meets one tests less than it seems */
-static size_t smallest = (size_t)-1; /* heap words and roots of the smallest case shown so far */
+static uint64_t met_by[OPS][10];      /* the same for each call */
+static uint64_t met_on_code[OPS][10]; /* of these, where the object's root holds a code word */
+static size_t smallest = (size_t)-1;  /* heap words and roots of the smallest case shown so far */
 static int through_struct;
 
 void judge_part(const char *name) {
@@ -34,7 +36,7 @@ uint64_t judge_calls(void) { return calls; }
 
 int said_equal(struct said a, struct said b) {
   return a.refusal == b.refusal && a.value == b.value && a.kind == b.kind && a.integer == b.integer &&
-         a.count == b.count && a.first == b.first;
+         a.count == b.count && a.first == b.first && a.code == b.code;
 }
 
 /* Cases get smaller as the run goes on; only those smaller than all before are printed. */
@@ -58,11 +60,17 @@ struct said archive_alone(struct state *s, const struct call *c) {
   return archive_call(s, c, through_struct);
 }
 
+static void count_answer(const struct call *c, uint32_t refusal) {
+  met[refusal]++;
+  met_by[c->op][refusal]++;
+  if (c->a < before.s.root_count && model_is_code(before.s.roots[c->a])) met_on_code[c->op][refusal]++;
+}
+
 struct said judge_call(const struct call *c) {
   struct said model, archive;
   copy_lent(&before, &ours);
   model = model_call(&ours.s, c);
-  met[model.refusal]++;
+  count_answer(c, model.refusal);
   collections += c->op != FRESH && ours.s.half != before.s.half;
   archive = archive_alone(&theirs.s, c);
   checks++;
@@ -89,8 +97,32 @@ static void show_met(void) {
   printf("\n");
 }
 
-int judge_verdict(uint64_t seed) {
+/* The refusals that came with code words or that a code word must still meet. */
+static void show_met_of_code(uint64_t least) {
+  static const struct {
+    const char *name;
+    const uint64_t *met;
+  } each[] = {{"set_code SHAPE", &met_by[SET_CODE][1]},
+              {"set_code ROOT", &met_by[SET_CODE][2]},
+              {"set_code RANGE", &met_by[SET_CODE][4]},
+              {"inspect OBJECT", &met_by[INSPECT][5]},
+              {"load on code OBJECT", &met_on_code[LOAD][5]},
+              {"store on code OBJECT", &met_on_code[STORE][5]},
+              {"raw_read on code OBJECT", &met_on_code[RAW_READ][5]},
+              {"raw_write on code OBJECT", &met_on_code[RAW_WRITE][5]},
+              {"open on code OBJECT", &met_on_code[OPEN][5]}};
+  size_t i;
+  printf("check-c: code words, each at least %" PRIu64, least);
+  for (i = 0; i < sizeof each / sizeof each[0]; i++) {
+    printf("%s %s %" PRIu64, i == 0 ? ":" : ",", each[i].name, *each[i].met);
+    expect(*each[i].met >= least, "a refusal of code words was met too seldom");
+  }
+  printf("\n");
+}
+
+int judge_verdict(uint64_t seed, uint64_t least) {
   show_met();
+  show_met_of_code(least);
   printf("check-c: %" PRIu64 " calls, %" PRIu64 " checks, %" PRIu64 " differences (seed %" PRIu64 ")\n", calls, checks,
          differences, seed);
   return differences != 0;

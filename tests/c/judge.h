@@ -20,8 +20,9 @@ struct said judge_call(const struct call *c);
 /* A further check, with a line that says what is wrong if it fails. */
 void expect(int ok, const char *wrong);
 
-/* The last lines of the run: the smallest case that differed, if any, and the totals. Returns the exit status. */
-int judge_verdict(uint64_t seed);
+/* The last lines of the run: the smallest case that differed, if any, and the totals. Returns the exit status. Each
+   refusal of code words must have been met `least` times. */
+int judge_verdict(uint64_t seed, uint64_t least);
 
 uint64_t judge_calls(void);
 

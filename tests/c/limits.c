@@ -12,7 +12,7 @@ static uint32_t refusal_of(enum op op, size_t a, size_t b, size_t c) {
 /* Every call that can say SHAPE says it, or none does. The heap is empty and roots, if any, are null. */
 static void shape_is(int bad, const char *wrong) {
   static const enum op ops[] = {CHECK, COLLECT, SET_NULL, COPY, SAME, INSPECT, OPEN, LOAD, STORE, RAW_READ, RAW_WRITE,
-                                NEW_TRACED, NEW_UNTRACED, SET_INTEGER};
+                                NEW_TRACED, NEW_UNTRACED, SET_INTEGER, SET_CODE};
   struct state *s = judged(), was = *s;
   size_t i;
   for (i = 0; i < sizeof ops / sizeof ops[0]; i++) {
@@ -88,6 +88,39 @@ static void integers(void) {
     }
 }
 
+/* P5 is sound or not with a word in a further root, in a field of garbage, in a live field; a collection keeps it. */
+static void in_each_place(uint32_t word, int sound) {
+  struct call check = call_of(CHECK, 0, 0, 0);
+  struct state *s = judged();
+  size_t i;
+  for (i = 0; i < 3; i++) {
+    judge_lend(17, 3);
+    p5_heap(s);
+    *(i == 0 ? s->roots + 2 : i == 1 ? s->heap + 2 : s->heap + 5) = word;
+    judge_settle();
+    expect(judge_call(&check).value == (uint32_t)sound, "check around the floor of code words");
+    expect(refusal_of(COLLECT, 0, 0, 0) == (sound ? 0u : 8u), "collect around the floor of code words");
+    if (sound && i != 1) expect(*(i == 0 ? s->roots + 2 : s->heap + 12) == word, "a collection changes a plain value");
+  }
+}
+
+/* The floor, the words one and two below and above it, and the same where the sign changes and words end. */
+static void code_words(void) {
+  static const uint32_t edges[] = {16777216, 2147483648, 4294967293};
+  size_t i;
+  uint32_t k;
+  for (i = 0; i < sizeof edges / sizeof edges[0]; i++)
+    for (k = 0; k < 5; k++) {
+      uint32_t word = edges[i] - 2 + k;
+      int odd = word % 2 == 1, high = word >= 16777216;
+      struct call set = set_code_of(0, word), inspect = call_of(INSPECT, 0, 0, 0);
+      judge_lend(3, 1);
+      expect(judge_call(&set).refusal == (odd || !high ? 4u : 0u), "RANGE at a code word");
+      if (!odd && high) expect(judge_call(&inspect).code == word, "a code word reads back");
+      in_each_place(word, odd || high);
+    }
+}
+
 static void counts(void) {
   size_t n;
   judge_lend(2097153, 2);
@@ -136,6 +169,7 @@ void limits(void) {
   root_counts();
   records();
   integers();
+  code_words();
   counts();
   fields();
   exact_fit();

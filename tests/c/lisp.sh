@@ -58,6 +58,7 @@ program mutual 1800 1300
 program cycles 2300 1400
 fault "wrong type" "(car 5)"
 fault "wrong type" "(string-length '(1))"
+fault "wrong type" "(car car)"
 fault "unbound name" "(print nobody)"
 fault "not a function" "(5 6)"
 fault "wrong count" "((lambda (x) x) 1 2)"

@@ -25,5 +25,5 @@ int main(int argc, char **argv) {
   long_sessions(calls / 10);
   showing((uint32_t)(calls / 500) + 100);
   largest_heaps((uint32_t)(calls / 50000) + 1);
-  return judge_verdict(seed);
+  return judge_verdict(seed, calls / 1000);
 }

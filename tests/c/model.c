@@ -1,4 +1,4 @@
-/* The model of document 01: words and objects, soundness, collection, then the calls one by one. */
+/* The model of documents 01 and 02: words and objects, soundness, collection, then the calls one by one. */
 #include "model.h"
 
 #include <string.h>
@@ -17,6 +17,12 @@ static uint32_t first_word(const struct state *s, uint32_t half) { return half =
 static uint32_t fields_of(uint32_t header) { return (header & 0x7fffffffu) >> 1; }
 
 static int untraced(uint32_t header) { return (header >> 31) != 0; }
+
+/* "Every even word from 16,777,216 up is a code word." */
+int model_is_code(uint32_t word) { return word % 2 == 0 && word >= 16777216; }
+
+/* Integers, null and code words, which a collection neither follows nor changes. */
+static int plain(uint32_t word) { return word % 2 == 1 || word == 0 || model_is_code(word); }
 
 static int bad_length(size_t words) { return words % 2 == 0 || words < 3 || words > LONGEST; }
 
@@ -59,7 +65,7 @@ static int tiles(const struct state *s) {
 }
 
 static int good_value(const struct state *s, uint32_t word) {
-  if (word % 2 == 1 || word == 0) return 1;
+  if (plain(word)) return 1;
   return word % 4 == 0 && word / 4 < s->words && starts[word / 4];
 }
 
@@ -94,7 +100,7 @@ static size_t met;
 static uint32_t next_copy;
 
 static void meet(const struct state *s, uint32_t word) {
-  if (word % 2 == 1 || word == 0 || copy_at[word / 4] != 0) return;
+  if (plain(word) || copy_at[word / 4] != 0) return;
   order[met++] = word / 4;
   copy_at[word / 4] = next_copy;
   next_copy += fields_of(s->heap[word / 4]) + 1;
@@ -115,7 +121,7 @@ static void find_order(const struct state *s, uint32_t first_copy) {
   for (i = 0; i < met; i++) meet_fields(s, order[i]);
 }
 
-static uint32_t renamed(uint32_t word) { return word % 2 == 1 || word == 0 ? word : 4 * copy_at[word / 4]; }
+static uint32_t renamed(uint32_t word) { return plain(word) ? word : 4 * copy_at[word / 4]; }
 
 /* The copy of one object, into new_half, which starts at index first_copy. */
 static void write_copy(const struct state *s, uint32_t at, uint32_t first_copy) {
@@ -192,6 +198,14 @@ static uint32_t set_null(struct state *s, size_t to) {
   return 0;
 }
 
+static uint32_t set_code(struct state *s, size_t to, uint32_t word) {
+  if (bad_shape(s)) return SHAPE;
+  if (to >= s->root_count) return ROOT;
+  if (!model_is_code(word)) return RANGE; /* odd, or below the floor */
+  s->roots[to] = word;
+  return 0;
+}
+
 static uint32_t copy(struct state *s, size_t from, size_t to) {
   if (bad_shape(s)) return SHAPE;
   if (from >= s->root_count || to >= s->root_count) return ROOT;
@@ -226,13 +240,14 @@ static int32_t integer_of(uint32_t word) {
 }
 
 static struct said inspect(const struct state *s, size_t root) {
-  struct said r = {0, 0, 0, 0, 0, 0};
+  struct said r = {0, 0, 0, 0, 0, 0, 0};
   uint32_t word;
   if (bad_shape(s)) return r.refusal = SHAPE, r;
   if (root >= s->root_count) return r.refusal = ROOT, r;
   word = s->roots[root];
   if (word == 0) return r;
   if (word % 2 == 1) return r.kind = 1, r.integer = integer_of(word), r;
+  if (model_is_code(word)) return r.kind = 4, r.code = word, r;
   if (!names(s, word)) return r.refusal = OBJECT, r;
   r.kind = untraced(s->heap[word / 4]) ? 3 : 2;
   r.count = fields_of(s->heap[word / 4]);
@@ -240,7 +255,7 @@ static struct said inspect(const struct state *s, size_t root) {
 }
 
 static struct said open_window(const struct state *s, size_t object) {
-  struct said r = {0, 0, 0, 0, 0, 0};
+  struct said r = {0, 0, 0, 0, 0, 0, 0};
   if (bad_shape(s)) return r.refusal = SHAPE, r;
   if (object >= s->root_count) return r.refusal = ROOT, r;
   if (!names(s, s->roots[object])) return r.refusal = OBJECT, r;
@@ -269,7 +284,7 @@ static uint32_t field_call(struct state *s, const struct call *c, uint32_t *valu
 }
 
 struct said model_call(struct state *s, const struct call *c) {
-  struct said r = {0, 0, 0, 0, 0, 0};
+  struct said r = {0, 0, 0, 0, 0, 0, 0};
   switch (c->op) {
   case FRESH: r.refusal = fresh(s); break;
   case CHECK:
@@ -281,6 +296,7 @@ struct said model_call(struct state *s, const struct call *c) {
   case NEW_UNTRACED: r.refusal = allocate(s, c->b, c->a, 1); break;
   case SET_INTEGER: r.refusal = set_integer(s, c->a, c->integer); break;
   case SET_NULL: r.refusal = set_null(s, c->a); break;
+  case SET_CODE: r.refusal = set_code(s, c->a, c->number); break;
   case COPY: r.refusal = copy(s, c->a, c->c); break;
   case LOAD:
   case STORE:

@@ -1,4 +1,5 @@
-/* A model of the heap in plain C, written from document 01 and from nothing else: what each call must answer and leave.
+/* A model of the heap in plain C, written from document 01 and document 02's Q-1, and from nothing else: what each call
+ * must answer and leave.
  *
  * It is slow and simple on purpose. A collection lists the reachable objects first and writes the new half afterwards,
  * so that it shares no step with a collector that works in place.
@@ -19,8 +20,8 @@ struct state {
 };
 
 enum op {
-  FRESH, CHECK, COLLECT, NEW_TRACED, NEW_UNTRACED, SET_INTEGER, SET_NULL, COPY, LOAD, STORE, RAW_READ, RAW_WRITE,
-  SAME, INSPECT, OPEN, WORD, OPS
+  FRESH, CHECK, COLLECT, NEW_TRACED, NEW_UNTRACED, SET_INTEGER, SET_NULL, SET_CODE, COPY, LOAD, STORE, RAW_READ,
+  RAW_WRITE, SAME, INSPECT, OPEN, WORD, OPS
 };
 
 /* A call with its arguments; each op reads those that it needs.
@@ -29,7 +30,7 @@ struct call {
   enum op op;
   size_t a, b, c;
   int64_t integer;
-  uint32_t number;
+  uint32_t number;    /* of a raw write; or the word to be set as a code word */
   uint32_t window[3]; /* refusal, first, count */
 };
 
@@ -41,9 +42,11 @@ struct said {
   int32_t integer;
   uint32_t count;
   uint32_t first;
+  uint32_t code;
 };
 
 struct said model_call(struct state *s, const struct call *c);
 int model_sound(const struct state *s);
+int model_is_code(uint32_t word);
 
 #endif

@@ -4,7 +4,7 @@
 
 #include <stdint.h>
 
-void worked_heaps(void);                  /* worked.c: P1 to P10 and the Fresh cases */
+void worked_heaps(void);                  /* worked.c: P1 to P10, the Fresh cases, code words */
 void each_refusal(void);                  /* refusals.c: each by name, by each call that can give it */
 void struct_begin(void);                  /* begin.c: the header's struct, lent and cleared */
 void limits(void);                        /* limits.c: each at its value, one below, one above */

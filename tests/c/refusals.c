@@ -29,6 +29,7 @@ struct provoked {
 static const struct provoked good_heap[] = {
     {PHACHUNOI_ROOT, NEW_TRACED, 4, 0, 0},     {PHACHUNOI_ROOT, NEW_UNTRACED, 4, 0, 0},
     {PHACHUNOI_ROOT, SET_INTEGER, 4, 0, 0},    {PHACHUNOI_ROOT, SET_NULL, 4, 0, 0},
+    {PHACHUNOI_ROOT, SET_CODE, 4, 0, 0},       {PHACHUNOI_RANGE, SET_CODE, 0, 0, 0},
     {PHACHUNOI_ROOT, COPY, 4, 0, 0},           {PHACHUNOI_ROOT, COPY, 0, 0, 4},
     {PHACHUNOI_ROOT, LOAD, 4, 0, 0},           {PHACHUNOI_ROOT, LOAD, 1, 0, 4},
     {PHACHUNOI_ROOT, LOAD, 3, 9, 4},           {PHACHUNOI_ROOT, STORE, 4, 0, 0},
@@ -85,6 +86,22 @@ static void integers(void) {
   expect(judge_call(&bad_root).refusal == PHACHUNOI_ROOT, "ROOT comes before RANGE");
 }
 
+/* What names no object is OBJECT to every call on one: root 3 holds a code word, then the word two below the lowest, of
+   which inspect has nothing to tell either. */
+static void code_words(void) {
+  static const uint32_t words[] = {16777216, 16777218, 4294967294, 16777214};
+  static const struct provoked inspect = {PHACHUNOI_OBJECT, INSPECT, 3, 0, 0};
+  size_t i, k;
+  for (k = 0; k < 4; k++) {
+    p5_and_text();
+    judged()->roots[3] = words[k];
+    judge_settle();
+    for (i = 0; i < sizeof good_heap / sizeof good_heap[0]; i++)
+      if (good_heap[i].refusal == PHACHUNOI_OBJECT) provoke(&good_heap[i]);
+  }
+  provoke(&inspect);
+}
+
 static void texts(void) {
   uint32_t a, b;
   for (a = 0; a < 10; a++)
@@ -102,6 +119,7 @@ void each_refusal(void) {
   }
   shape_and_damage();
   integers();
+  code_words();
   texts();
   expect(phachunoi_version() == PHACHUNOI_VERSION_NUMBER, "the archive has another version than the header");
 }

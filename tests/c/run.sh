@@ -34,11 +34,12 @@ headers() {
     done
 }
 
-smallest() {
-    build tuple examples/tuple.c "$archive"
-    tools/cc.sh run $made/tuple >$made/tuple.out || fail "examples/tuple.c"
-    cmp -s $made/tuple.out examples/tuple.out || fail "examples/tuple.c prints something else than examples/tuple.out"
-    echo "check-c: the smallest embedding"
+# The small example $1 prints what stands beside it. $2 says what it shows.
+example() {
+    build "$1" "examples/$1.c" "$archive"
+    tools/cc.sh run "$made/$1" >"$made/$1.out" || fail "examples/$1.c"
+    cmp -s "$made/$1.out" "examples/$1.out" || fail "examples/$1.c prints something else than examples/$1.out"
+    echo "check-c: $2"
 }
 
 # The README's sample is a whole program but for its headers.
@@ -81,7 +82,8 @@ installed() {
 }
 
 headers
-smallest
+example tuple "the smallest embedding"
+example closure "closures with code words"
 sample
 pictures
 installed

@@ -3,6 +3,7 @@
 #include <string.h>
 
 #include "calls.h"
+#include "codes.h"
 #include "graph.h"
 #include "judge.h"
 #include "parts.h"
@@ -29,9 +30,9 @@ static size_t object_root(int raw) {
 }
 
 static enum op session_op(void) {
-  static const enum op ops[] = {NEW_TRACED, NEW_TRACED, NEW_TRACED, NEW_UNTRACED, STORE,     STORE,       STORE,   LOAD,
-                                LOAD,       RAW_WRITE,  RAW_READ,   COPY,         SET_NULL,  SET_INTEGER, INSPECT, SAME,
-                                COLLECT,    CHECK,      INSPECT,    LOAD};
+  static const enum op ops[] = {NEW_TRACED, NEW_TRACED, NEW_TRACED, NEW_UNTRACED, STORE,    STORE,       STORE,   LOAD,
+                                LOAD,       RAW_WRITE,  RAW_READ,   COPY,         SET_NULL, SET_INTEGER, INSPECT, SAME,
+                                COLLECT,    CHECK,      INSPECT,    LOAD,         SET_CODE, SET_CODE};
   return ops[below(sizeof ops / sizeof ops[0])];
 }
 
@@ -44,7 +45,7 @@ static struct call session_call(void) {
     c.b = below(graph_holds(c.a).count);
   }
   c.integer = one_in(10) ? 1073741824 : (int64_t)below(2000) - 1000;
-  c.number = (uint32_t)random_bits();
+  c.number = c.op == SET_CODE ? asked_code() : (uint32_t)random_bits();
   if (one_in(20)) c.a = below((uint32_t)root_count + 2);
   if (one_in(20)) c.b = one_in(2) && c.op != LOAD ? 1073741824 : below(8);
   return c;

@@ -8,10 +8,10 @@
 #include "archive.h"
 #include "phachunoi_show.h"
 
-static const char *const op_names[OPS] = {"fresh",       "check",    "collect", "allocate_traced", "allocate_untraced",
-                                          "set_integer", "set_null", "copy",    "load",            "store",
-                                          "raw_read",    "raw_write", "same",   "inspect",         "open",
-                                          "word"};
+static const char *const op_names[OPS] = {
+    "fresh",    "check", "collect", "allocate_traced", "allocate_untraced", "set_integer", "set_null",
+    "set_code", "copy",  "load",    "store",           "raw_read",          "raw_write",   "same",
+    "inspect",  "open",  "word"};
 
 /* Of exactly the size lent, so that a build with a checker of addresses sees every step beside it. */
 static uint32_t *copy_of(const uint32_t *run, size_t n) {
@@ -73,8 +73,9 @@ void show_call(const struct call *c) {
 
 void show_said(const char *label, struct said said, const struct state *after) {
   printf("  %s refusal %" PRIu32 " value %" PRIx32 " kind %" PRIu32 " integer %" PRId32 " count %" PRIu32
-         " first %" PRIu32 "; half %" PRIu32 " free %" PRIu32 "\n",
-         label, said.refusal, said.value, said.kind, said.integer, said.count, said.first, after->half, after->free);
+         " first %" PRIu32 " code %" PRIx32 "; half %" PRIu32 " free %" PRIu32 "\n",
+         label, said.refusal, said.value, said.kind, said.integer, said.count, said.first, said.code, after->half,
+         after->free);
 }
 
 static void show_difference(const char *what, const uint32_t *model, const uint32_t *archive, size_t n) {

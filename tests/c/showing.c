@@ -85,6 +85,18 @@ static void broken(void) {
   is_stored(phachunoi_show_text, 0, "tests/c/show/odd.txt");
 }
 
+/* P5 with code words in roots, in a live field and in a row; and the two even words below them, which are none. */
+static void code_words(void) {
+  static const uint32_t roots[] = {16777216, 16777216, 16777216, 16777216, 24, 4294967294, 16777214, 12};
+  judge_lend(17, 8);
+  p5_heap(judged());
+  memcpy(judged()->roots, roots, sizeof roots);
+  judged()->heap[2] = 16777212;
+  judged()->heap[5] = 16777228;
+  is_stored(phachunoi_show_text, 1, "tests/c/show/code.txt");
+  is_stored(phachunoi_show_graph, 1, "tests/c/show/code.dot");
+}
+
 /* ---- heaps of every sort ---- */
 
 static uint8_t starts[2097153]; /* 1 where an object starts, as 01 has it, up to the first word that starts none */
@@ -130,10 +142,14 @@ static int next_line(const char **text, char *line, size_t size) {
 /* What a line says that a word means must be so. */
 static void means(const char *meaning, uint32_t word, int with_notes) {
   long v;
-  unsigned long at;
+  unsigned long at, code;
   if (strstr(meaning, "null") != NULL) expect(word == 0, "null is shown that is not null");
   if (strstr(meaning, "integer ") != NULL && sscanf(strstr(meaning, "integer "), "integer %ld", &v) == 1)
     expect((uint32_t)(2 * v + 1) == word, "another integer is shown");
+  if (strstr(meaning, "code ") != NULL && sscanf(strstr(meaning, "code "), "code %lu", &code) == 1)
+    expect(code == word && model_is_code(word), "a code word is shown that is none");
+  if (strstr(meaning, "! no object") != NULL)
+    expect(word % 2 == 0 && word != 0 && !model_is_code(word), "a value is shown as no object");
   if (strstr(meaning, "object at ") == NULL || sscanf(strstr(meaning, "object at "), "object at %lu", &at) != 1) return;
   expect(4 * at == word && at < sizeof starts && (!with_notes || starts[at]), "an object is shown that is none");
 }
@@ -279,6 +295,7 @@ void showing(uint32_t heaps) {
   fresh_and_refused();
   damaged();
   broken();
+  code_words();
   limits_of_shape();
   every_bit_of_p5();
   for (; heaps > 0; heaps--) {

@@ -1,4 +1,5 @@
-/* Document 01's worked heaps P1 to P10 and its Fresh cases: the numbers written there, and the model besides. */
+/* Document 01's worked heaps P1 to P10 and its Fresh cases, and cases of document 02's code words: the numbers written
+   there, and the model besides. */
 #include <string.h>
 
 #include "calls.h"
@@ -36,7 +37,12 @@ static void p3(void) {
   expect(memcmp(judged()->heap + 1, tuple, sizeof tuple) == 0, "P3: the tuple (23, 42)");
 }
 
-/* The text "hello" lives through a collection, though its first word looks like an address. */
+static int inspects_code(uint32_t word) {
+  struct said seen = call(INSPECT, 0, 0, 0);
+  return seen.refusal == 0 && seen.kind == 4 && seen.code == word && seen.count == 0;
+}
+
+/* The text "hello" lives through a collection, though its first word looks like a code word; in a root it is one. */
 static void p4(void) {
   static const uint32_t text[3] = {0x80000004u, 0x6c6c6568u, 0x0000006fu};
   struct call write = call_of(RAW_WRITE, 0, 0, 0);
@@ -50,6 +56,10 @@ static void p4(void) {
   expect(memcmp(judged()->heap + 1, text, sizeof text) == 0, "P4: the text before");
   expect(call(COLLECT, 0, 0, 0).value == 3, "P4: three live words");
   expect(memcmp(judged()->heap + 9, text, sizeof text) == 0, "P4: the text after");
+  judged()->roots[0] = text[1];
+  judge_settle();
+  expect(inspects_code(text[1]), "P4: a root that holds the text's first word");
+  expect(call(COLLECT, 0, 0, 0).refusal == 0 && judged()->roots[0] == text[1], "P4: that root after a collection");
 }
 
 static void on_p5(size_t roots) {
@@ -58,11 +68,15 @@ static void on_p5(size_t roots) {
   judge_settle();
 }
 
+static int left(uint32_t half, uint32_t free, const uint32_t words[17], uint32_t root_0, uint32_t root_1) {
+  const struct state *s = judged();
+  return s->half == half && s->free == free && memcmp(s->heap, words, 17 * sizeof words[0]) == 0 &&
+         s->roots[0] == root_0 && s->roots[1] == root_1;
+}
+
 static int is_p5_result(void) {
   static const uint32_t words[17] = {0, 0, 0, 0, 0, 0, 0, 0, 0, 0, 4, 40, 21, 0, 0, 0, 0};
-  const struct state *s = judged();
-  return s->half == 1 && s->free == 13 && memcmp(s->heap, words, sizeof words) == 0 && s->roots[0] == 36 &&
-         s->roots[1] == 40;
+  return left(1, 13, words, 36, 40);
 }
 
 static void p5_to_p7(void) {
@@ -130,6 +144,38 @@ static void p5_by_calls(void) {
   expect(call(COLLECT, 0, 0, 0).value == 4 && is_p5_result(), "P5 by calls: the collection");
 }
 
+/* ---- code words, on P5's start ---- */
+
+static void code_asked(size_t to, uint32_t word, uint32_t refusal, const char *wrong) {
+  static const uint32_t words[17] = {0, 2, 1, 4, 12, 21, 0};
+  struct call set = set_code_of(to, word);
+  on_p5(2);
+  expect(judge_call(&set).refusal == refusal && left(0, 7, words, refusal == 0 ? word : 24, 12), wrong);
+  if (refusal == 0) expect(inspects_code(word), wrong);
+}
+
+static void code_words_set(void) {
+  code_asked(0, 16777216, 0, "set code: the lowest");
+  code_asked(0, 4294967294, 0, "set code: the largest");
+  code_asked(0, 16777214, 4, "set code: one too low is RANGE");
+  code_asked(0, 16777217, 4, "set code: an odd one is RANGE");
+  code_asked(0, 0, 4, "set code: 0 is RANGE");
+  code_asked(2, 0, 2, "set code: ROOT comes before RANGE");
+}
+
+static void code_words_collected(void) {
+  static const uint32_t words[17] = {0, 0, 0, 0, 0, 0, 0, 0, 0, 4, 36, 16777228};
+  static const enum op ops[] = {LOAD, STORE, RAW_READ, RAW_WRITE, OPEN};
+  size_t i;
+  on_p5(2);
+  judged()->roots[0] = 16777218;
+  judged()->heap[5] = 16777228;
+  judge_settle();
+  expect(call(COLLECT, 0, 0, 0).value == 3 && left(1, 12, words, 16777218, 36), "code words: a collection");
+  for (i = 0; i < sizeof ops / sizeof ops[0]; i++)
+    expect(call(ops[i], 0, 0, 1).refusal == 5 && left(1, 12, words, 16777218, 36), "a code word names no object");
+}
+
 void worked_heaps(void) {
   judge_part("worked heaps");
   p1_p2();
@@ -140,4 +186,6 @@ void worked_heaps(void) {
   p10();
   fresh_cases();
   p5_by_calls();
+  code_words_set();
+  code_words_collected();
 }

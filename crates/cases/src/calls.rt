@@ -14,6 +14,10 @@ pub fn set_null(to: usize) -> Call {
     Call::SetNull { to }
 }
 
+pub fn set_code(to: usize, word: u32) -> Call {
+    Call::SetCode { to, word }
+}
+
 pub fn copy(from: usize, to: usize) -> Call {
     Call::Copy { from, to }
 }

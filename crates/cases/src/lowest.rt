@@ -19,6 +19,23 @@ fn shape() {
     root_calls::all(&mut heap, &mut none[..0], run::in_a(0), 0);
 }
 
+fn range() {
+    let mut heap = [0u32; 17];
+    let mut roots = [0u32; 1];
+    let too_many = calls::allocate(Kind::Traced, 1073741824, 1);
+    let too_large = calls::set_integer(1, 1073741824);
+    let odd = calls::set_code(1, 16777217);
+    run::name(b"lowest, ROOT before COUNT and RANGE");
+    run::three(
+        &mut heap,
+        &mut roots,
+        run::in_a(1),
+        too_many,
+        too_large,
+        odd,
+    );
+}
+
 // No word is free, and the words are no heap.
 fn count() {
     let mut heap = [7u32; 17];
@@ -32,14 +49,7 @@ fn count() {
 pub fn cases() {
     root();
     shape();
-    let too_many = calls::allocate(Kind::Traced, 1073741824, 1);
-    let too_large = calls::set_integer(1, 1073741824);
-    start::two_on_blank(
-        b"lowest, ROOT before COUNT and RANGE",
-        0,
-        too_many,
-        too_large,
-    );
+    range();
     count();
     let load = calls::load(0, 9, 0);
     start::two_on_blank(

@@ -1,8 +1,9 @@
-// Every case of the definitions' tables in Worked, Unnamed, Unsound and EachCall, in their order, through
-// the compiled calls. A line for each: its name, the answers in numbers, and the record, words and roots
-// that are left. The expected lines, worked out from document 01, stand in the file `stdout`, and the gate
-// compares.
+// Every case of the definitions' tables in Worked, CodeWords, Unnamed, Unsound and EachCall, in their order,
+// through the compiled calls. A line for each: its name, the answers in numbers, and the record, words and
+// roots that are left. The expected lines, worked out from documents 01 and 02, stand in the file `stdout`,
+// and the gate compares.
 mod calls;
+mod codes;
 mod collections;
 mod fresh;
 mod integers;
@@ -42,6 +43,7 @@ fn each_call() {
 
 fn main() {
     worked();
+    codes::cases();
     names::cases();
     unsound();
     each_call();

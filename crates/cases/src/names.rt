@@ -49,13 +49,19 @@ pub fn cases() {
     named();
     pair_a(b"names, odd", 4, 5);
     pair_a(b"names, 0", 4, 0);
+    pair_a(b"names, the lowest code word", 4, 16777216);
+    pair_a(
+        b"names, the highest code word that is a multiple of 4",
+        4,
+        0xfffffffc,
+    );
     pair_a(b"names, no multiple of 4", 4, 6);
     pair_b(b"names, before the current half", 4);
     pair_a(b"names, at the free index", 4, 16);
     pair_a(b"names, past the free index", 4, 20);
     pair_a(b"names, in the idle half", 4, 24);
     pair_a(b"names, past the heap", 4, 44);
-    pair_a(b"names, the last address", 4, 0xfffffffc);
+    pair_a(b"names, the last address", 4, 16777212);
     pair_a(b"names, bit 0 set there", 4, 8);
     pair_a(b"names, words end past the free index", 6, 4);
     pair_a(b"names, the largest count there", 0xfffffffe, 4);

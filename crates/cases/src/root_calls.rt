@@ -6,14 +6,18 @@ use model::Record;
 
 fn on_roots(heap: &mut [u32], roots: &mut [u32], record: Record, r: usize) -> Record {
     let made = run::ask(heap, roots, record, calls::allocate(Kind::Traced, 0, r));
-    let set = run::ask_two(
+    run::ask_two(
         heap,
         roots,
         made,
         calls::set_integer(r, 0),
         calls::set_null(r),
-    );
-    run::ask_two(heap, roots, set, calls::copy(r, 0), calls::copy(0, r))
+    )
+}
+
+fn on_words(heap: &mut [u32], roots: &mut [u32], record: Record, r: usize) -> Record {
+    let coded = run::ask(heap, roots, record, calls::set_code(r, 16777216));
+    run::ask_two(heap, roots, coded, calls::copy(r, 0), calls::copy(0, r))
 }
 
 fn on_objects(heap: &mut [u32], roots: &mut [u32], record: Record, r: usize) -> Record {
@@ -45,8 +49,13 @@ fn on_views(heap: &mut [u32], roots: &mut [u32], record: Record, r: usize) {
     run::one(heap, roots, same, calls::inspect(r));
 }
 
+fn on_rest(heap: &mut [u32], roots: &mut [u32], record: Record, r: usize) {
+    let raw = on_objects(heap, roots, record, r);
+    on_views(heap, roots, raw, r);
+}
+
 pub fn all(heap: &mut [u32], roots: &mut [u32], record: Record, r: usize) {
     let set = on_roots(heap, roots, record, r);
-    let raw = on_objects(heap, roots, set, r);
-    on_views(heap, roots, raw, r);
+    let copied = on_words(heap, roots, set, r);
+    on_rest(heap, roots, copied, r);
 }

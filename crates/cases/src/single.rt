@@ -117,6 +117,7 @@ pub fn cases() {
     allocate_full();
     start::on_junk(b"set integer, -5", 14, 12, calls::set_integer(1, -5));
     start::on_junk(b"set null", 14, 12, calls::set_null(1));
+    start::on_junk(b"set code", 14, 12, calls::set_code(1, 16777218));
     start::on_junk(b"copy", 14, 12, calls::copy(0, 1));
     same();
     start::on_junk(b"same, null and 0", 0, 1, calls::same(0, 1));

@@ -48,28 +48,33 @@ fn last_root() {
 pub fn roots() {
     sound(b"root, an integer", 4, 2, 1, 5);
     sound(b"root, null", 4, 2, 1, 0);
+    sound(b"root, a code word", 4, 2, 1, 16777218);
     sound(b"root, the other object", 4, 2, 1, 12);
     named_inside();
     unsound(b"root, no multiple of 4", 4, 1, 6);
     unsound(b"root, the free word", 4, 1, 20);
     unsound(b"root, in the idle half", 4, 1, 24);
     unsound(b"root, past the heap", 4, 1, 44);
-    unsound(b"root, the last address", 4, 1, 0xfffffffc);
+    unsound(b"root, the last address", 4, 1, 16777212);
+    unsound(b"root, just below the floor", 4, 1, 16777214);
     last_root();
 }
 
 fn live_fields() {
     sound(b"field, an integer", 1, 2, 1, 4);
     sound(b"field, null", 0, 2, 1, 4);
+    sound(b"field, a code word", 16777216, 2, 1, 4);
     sound(b"field, the other object", 12, 2, 1, 4);
     unsound(b"field, no multiple of 4", 6, 1, 4);
     unsound(b"field, no header", 8, 1, 4);
     unsound(b"field, the free word", 20, 1, 4);
     unsound(b"field, in the idle half", 24, 1, 4);
+    unsound(b"field, just below the floor", 16777214, 1, 4);
 }
 
 fn garbage_fields() {
     sound(b"garbage, its own header", 4, 2, 12, 4);
+    sound(b"garbage, a code word", 4, 2, 0xfffffffe, 4);
     unsound(b"garbage, no multiple of 4", 4, 6, 4);
     unsound(b"garbage, no header", 4, 8, 4);
     unsound(b"garbage, the free word", 4, 20, 4);

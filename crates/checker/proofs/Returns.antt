@@ -86,7 +86,12 @@ module _ (Y : Layout) (H : List ℕ) (p : Part) (H′ : List ℕ) (stop : ℕ) (
       → Fits H′ p × (isTiledPart Y H′ p ≡ true)
   marked-fits f a e =
       let s : length H′ ≡ length H = ap length left-heap ∙ lengths Y H p f a in (
-        record { start = f .start; used = omega (arith, f .used); marks = omega (arith, f .marks) },
+        record {
+          start = f .start;
+          used = omega (arith, f .used);
+          most = omega (arith, f .most);
+          marks = omega (arith, f .marks);
+        },
         rw left-heap
             (marked-tiled Y H p f a
             (sym (stop-is Y H p f a) ∙ eq-eqb (marked Y H p .stop) (p .free .0) (sym (ap (λ (m : Marking). m .stop) is) ∙ e))),

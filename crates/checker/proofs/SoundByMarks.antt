@@ -172,7 +172,12 @@ module _ (Y : Layout) (s : State) (fair : badShape s ≡ false) where
   pub fits : Fits (s .heap) P
   fits =
       let h = halves in
-      record { start = h .start; used = omega (arith, h .end, h .current); marks = omega (arith, h .start, h .end, h .idle) }
+      record {
+        start = h .start;
+        used = omega (arith, h .end, h .current);
+        most = omega (arith, shape .odd, shape .small);
+        marks = omega (arith, h .start, h .end, h .idle);
+      }
 
   pub apart : Apart (P .first .0) (P .marks .0) (usedWords P)
   apart = go (s .«record» .half) refl

@@ -4,16 +4,19 @@ use Prim.Native.Nat.{ℕ, zero, suc, _+_, _-_, _%_, _≤_, _<_}
 use native.Mathlib.Omega.{arith}
 use mathlib.Core.Path.{_≡_, refl, sym, ap, _∙_}
 use mathlib.Core.Logic.{⊎-elim}
-use mathlib.Core.Bool.{Bool, true, false, _&&_}
+use mathlib.Core.Bool.{Bool, true, false, not, _&&_, or-false}
 use mathlib.Core.List.{List, _∷_}
 use lib.Dec.{eqb, ltb, leb}
 use lib.ListN.{length, set, take}
 use lib.Seq.{drop-cons}
 use borrow.Author.Tests.{ltb-true, leb-true, lt-ltb, le-ltb, ne-eqb}
-use Rattle.model.proofs.Tests.{same?, and-both}
-use Rattle.model.specs.Headers.{Layout}
+use Rattle.model.proofs.Tests.{decide, and-both}
+use Rattle.model.proofs.WordSorts.{parts-address, odd-no-address, parts-code, code-no-address, address-no-code}
+use Rattle.model.specs.Headers.{Layout, Adjacent}
+use Rattle.model.specs.Limits.{codeFloor}
 use Rattle.model.specs.Objects.{isTraced, index, kind, fieldCount, size}
 use Rattle.model.specs.Soundness.{all}
+use Rattle.model.specs.Values.{isAddress, isCode}
 use Rattle.model.specs.Words.{at}
 use Rattle.runs.specs.Runs.{run}
 use Rattle.checker_marks.specs.declared.Part.{Part}
@@ -87,27 +90,46 @@ abbrev pub inPart : Part → ℕ → Bool
 inPart p i = leb (p .first .0) i && ltb i (p .first .0 + usedWords p)
 
 module _ (Y : Layout) (H : List ℕ) (p : Part) (w : ℕ) where
-  pub value-askew : (w % 4 ≡ 0 → ⊥) → isValueByMarks Y H p w ≡ eqb (w % 2) 1
+  pub value-odd : w % 2 ≡ 1 → isValueByMarks Y H p w ≡ true
   unfolding isValueByMarks
-  value-askew n =
+  value-odd o = rw (odd-no-address w o)
+
+  -- an even word, not 0, is a code word or an address
+  code-or-address : w % 2 ≡ 0 → (w ≡ 0 → ⊥) → isCode w ≡ not (isAddress w)
+  code-or-address e n =
       ⊎-elim
-      (λ (e : w % 2 ≡ 0). rw (e, ne-eqb w 0 (omega arith), ne-eqb (w % 4) 0 n))
-      (λ (o : w % 2 ≡ 0 → ⊥). let e : w % 2 ≡ 1 = omega arith in rw e)
-      (same? (w % 2) 0)
+      (λ (l : w < codeFloor).
+      let a = parts-address w e n l in
+      address-no-code w a ∙ sym (ap not a))
+      (λ (l : codeFloor ≤ w).
+      let c = parts-code w e l in
+      c ∙ sym (ap not (code-no-address w c)))
+      (decide w codeFloor)
+
+  -- one that is no multiple of 4, or whose index is not in the part, is a value only as a code word
+  pub value-askew : w % 2 ≡ 0 → (w % 4 ≡ 0 → ⊥) → isValueByMarks Y H p w ≡ isCode w
+  unfolding isValueByMarks
+  value-askew e n = rw (code-or-address e (λ z. n (rw z)), ne-eqb (w % 4) 0 n) (or-false (not (isAddress w)))
 
   pub value-null : w ≡ 0 → isValueByMarks Y H p w ≡ true
   unfolding isValueByMarks
   value-null z = rw z
 
-  -- an address, by the answer whether its index is in the part
-  pub value-named : w % 4 ≡ 0 → (w ≡ 0 → ⊥) → Fits H p → (i : ℕ) → i ≡ index Y w → (inside : Bool)
-      → inside ≡ inPart p i
-      → isValueByMarks Y H p w ≡ (inside && eqb (at H (markAt p i)) 1)
-  unfolding isValueByMarks
-  value-named four some f i is inside e =
-      let even : w % 2 ≡ 0 = omega arith in
-      let end : p .first .0 + usedWords p ≡ p .free .0 = omega arith in
-      rw (even, ne-eqb w 0 some, four, ← is, e, end)
+  -- a multiple of 4, not 0, by whether its index is in the part
+  module _ (four : w % 4 ≡ 0) (some : w ≡ 0 → ⊥) (f : Fits H p) (i : ℕ) (is : i ≡ index Y w) where
+    end : p .first .0 + usedWords p ≡ p .free .0
+    end = omega (arith, f .start)
+
+    pub value-outside : false ≡ inPart p i → isValueByMarks Y H p w ≡ isCode w
+    unfolding isValueByMarks
+    value-outside e =
+        rw (code-or-address (omega arith) some, four, ← is, ← end, ← e) (or-false (not (isAddress w)))
+
+    pub value-inside : Adjacent Y → true ≡ inPart p i → isValueByMarks Y H p w ≡ eqb (at H (markAt p i)) 1
+    unfolding isValueByMarks
+    value-inside near e =
+        let l = ltb-true i (p .first .0 + usedWords p) (and-both (leb (p .first .0) i) _ (sym e) .1) in
+        rw (parts-address w (omega arith) some (omega (arith, f .used, f .most, end)), four, ← is, ← end, ← e)
 
 -- an index in the part has its mark in the heap
 pub mark-within : (H : List ℕ) (p : Part) (i : ℕ) → Fits H p → true ≡ inPart p i → (p .first .0 ≤ i) × (markAt p i < length H)

@@ -7,6 +7,7 @@ use lib.Dec.{ltb, leb, eqb}
 use lib.ListN.{length, set}
 use Rattle.model.specs.declared.Record.{Record}
 use Rattle.model.specs.Headers.{Layout}
+use Rattle.model.specs.Limits.{maxWords}
 use Rattle.model.specs.Objects.{isTraced, index, kind, size, fieldWords}
 use Rattle.model.specs.Soundness.{all, allZero, tiles, headersFrom}
 use Rattle.model.specs.Values.{isAddress, isNull}
@@ -21,10 +22,11 @@ part i e m = record { first = record { 0 = i }; free = record { 0 = e }; marks =
 abbrev pub usedWords : Part → ℕ
 usedWords p = p .free .0 - p .first .0
 
--- the part and its marks lie in the heap
+-- the part and its marks lie in the heap, which has no more words than a heap may
 pub record Fits (H : List ℕ) (p : Part) : Type 0 where
   pub start : p .first .0 ≤ p .free .0
   pub used : p .free .0 ≤ length H
+  pub most : length H ≤ maxWords
   pub marks : p .marks .0 + usedWords p ≤ length H
 
 -- both halves, of S words, lie in the heap behind word 0
@@ -71,7 +73,7 @@ module _ (Y : Layout) where
   abbrev pub marked : List ℕ → Part → Marking
   marked H p = markedFrom H p (p .first .0)
 
-  -- odd, 0, or the address of a marked word
+  -- odd, 0, a code word, or the address of a marked word
   unfoldable pub isValueByMarks : List ℕ → Part → ℕ → Bool
   isValueByMarks H p w =
       not (isAddress w)

@@ -14,6 +14,7 @@ use model::Address;
 use model::Index;
 use words::shape::in_run;
 use words::tuple::Tuple;
+use words::values::is_code;
 
 // The used part of the current half, from its first word to the free index. The mark of the word `first + k`
 // is the word `marks + k` of the other half.
@@ -65,13 +66,16 @@ pub fn mark_headers(heap: &mut [u32], part: Part) -> Index
     Index(at)
 }
 
-// Whether a word is odd, 0, or the address of a marked word.
+// Whether a word is odd, 0, a code word, or the address of a marked word.
 fn is_value(heap: &[u32], part: Part, word: u32) -> bool
     requires { ⌜ Fits (now heap) part ⌝ }
     ensures { λ r. ⌜ r ≡ isValueByMarks tuple (now (heap .entry)) part word ⌝ }
 {
     if word % 4 != 0 {
-        return word % 2 == 1;
+        if word % 2 == 1 {
+            return true;
+        }
+        return is_code(word);
     }
     if word == 0 {
         return true;
@@ -79,7 +83,7 @@ fn is_value(heap: &[u32], part: Part, word: u32) -> bool
     let first = part.first.0;
     let i = Tuple::index_of(Address(word)).0;
     if !in_run(i, first, part.free.0 - first) {
-        return false;
+        return is_code(word);
     }
     heap[part.marks.0 + (i - first)] == 1
 }

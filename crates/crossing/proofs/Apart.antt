@@ -1,10 +1,10 @@
 -- Answers and windows can be told apart in what C gets.
 use Prim.Native.Nat.{ℕ, _+_}
 use native.Mathlib.Omega.{arith}
-use mathlib.Core.Path.{_≡_, sym, ap}
-use mathlib.Core.Bool.{_||_}
+use mathlib.Core.Path.{_≡_, refl, sym, ap, _∙_}
+use mathlib.Core.Bool.{Bool, true, false, cond, _||_}
 use mathlib.Core.List.{List}
-use lib.Dec.{leb}
+use lib.Dec.{leb, eqb}
 use lib.ListN.{length}
 use Rattle.model.specs.declared.Refusal.the-variants as Why
 use Rattle.model.specs.declared.Call.{Call}
@@ -19,8 +19,10 @@ use Rattle.model.specs.Calls.{fresh}
 use Rattle.model.specs.Sessions.{step}
 use Rattle.model.proofs.PlainAnswers.{no-zero}
 use Rattle.model.proofs.Telling.{heard, numbers-apart, read-back, fresh-back, number-back, apart-by-two, told-apart}
+use Rattle.numbers.specs.Places.{holdsCode}
+use Rattle.crossing.specs.declared.CSeen.{CSeen}
 use Rattle.crossing.specs.declared.CWindow.{CWindow}
-use Rattle.crossing.specs.Numbers.{windowOf, wordAt}
+use Rattle.crossing.specs.Numbers.{seenOf, windowOf, wordAt}
 use Rattle.crossing.specs.Laws as Law
 
 collect-inspect : (r : ℕ) → Ask.Collect ≡ Ask.Inspect r → ⊥
@@ -35,6 +37,17 @@ read-inspect r e = let z : _≡_ {A = ℕ} 0 1 = cc in omega arith
 told-same : (t t′ : Told) → t .refusal ≡ t′ .refusal → t .holds ≡ t′ .holds → t .integer ≡ t′ .integer
     → t .value ≡ t′ .value → t ≡ t′
 told-same t t′ a b c d = λ i. record { refusal = a i; holds = b i; integer = c i; value = d i }
+
+-- the value of an inspect, from the place that it has
+abbrev seenValue : CSeen → ℕ
+seenValue z = cond (eqb (z .kind) holdsCode) (z .code) (z .count)
+
+seen-value : (t : Told) → seenValue (seenOf t) ≡ t .value
+seen-value t = go (eqb (t .holds) holdsCode)
+  where
+    go : (b : Bool) → cond b (cond b (t .value) 0) (cond b 0 (t .value)) ≡ t .value
+    go true = refl
+    go false = refl
 
 window-apart : (p p′ : Place) → windowOf p ≡ windowOf p′ → p ≡ p′
 window-apart (Place.Object i n) (Place.Object j m) e =
@@ -62,7 +75,8 @@ answers-apart Y = record {
   inCollected = λ s s′ q q′ e. by-two Y Ask.Collect s s′ collect-inspect (ap (λ z. z .refusal) e) (ap (λ z. z .live) e);
   inSeen = λ r s s′ e.
       told-apart Y .session (Ask.Inspect r) s s′
-      (told-same _ _ (ap (λ z. z .refusal) e) (ap (λ z. z .kind) e) (ap (λ z. z .integer) e) (ap (λ z. z .count) e));
+      (told-same _ _ (ap (λ z. z .refusal) e) (ap (λ z. z .kind) e) (ap (λ z. z .integer) e)
+      (sym (seen-value (told (step Y (Ask.Inspect r) s .answer))) ∙ ap seenValue e ∙ seen-value (told (step Y (Ask.Inspect r) s′ .answer))));
   inFresh = λ s s′ q q′ e.
       apart-by-two (Ask.SetNull 0) (fresh s .answer) (fresh s′ .answer) null-inspect (fresh-back s) (fresh-back s′)
       (ap (λ z. z .refusal) e) (ap (λ z. z .value) e);

@@ -1,12 +1,17 @@
 -- The law that every exported call cites: a call that is made with the record taken from C's numbers, and
 -- whose answer and record go back as numbers, is the model's call given those numbers.
-use Prim.Native.Nat.{ℕ}
+use Prim.Native.Nat.{ℕ, _<_}
 use native.Mathlib.Omega.{arith}
 use mathlib.Core.Path.{_≡_, refl, sym, ap, _∙_, subst}
 use mathlib.Core.Bool.{Bool, true, false}
 use mathlib.Core.List.{List, []}
 use lib.ListN.{length}
 use Rattle.model.specs.declared.Record.{Record}
+use Rattle.model.specs.declared.Kind.the-variants.{Traced, Untraced}
+use Rattle.model.specs.declared.Refusal.{Refusal}
+use Rattle.model.specs.declared.Refusal.the-variants as Why
+use Rattle.model.specs.declared.Answer.{Answer}
+use Rattle.model.specs.declared.Answer.the-variants as Says
 use Rattle.model.specs.declared.Call.{Call}
 use Rattle.model.specs.declared.Call.the-variants as Ask
 use Rattle.model.specs.declared.Answered.{Answered}
@@ -15,18 +20,20 @@ use Rattle.model.specs.declared.Place.{Place}
 use Rattle.model.specs.Words.{State, stateOf, free}
 use Rattle.model.specs.Headers.{tuple}
 use Rattle.model.specs.Shape.{badLength}
-use Rattle.model.specs.Answers.{Outcome, says, outcomeOf, told, refuse}
+use Rattle.model.specs.Answers.{Outcome, says, outcomeOf, number, told, refuse}
 use Rattle.model.specs.Calls.{fresh, inspect}
 use Rattle.model.specs.Laws.{changesRecord}
 use Rattle.model.specs.Window.{window}
 use Rattle.model.specs.Sessions.{step}
 use Rattle.model.proofs.Leaving.{record-stays, inspect-stays}
+use Rattle.numbers.specs.declared.seen.Seen.{Seen}
+use Rattle.numbers.specs.Places as Places
 use Rattle.crossing.specs.declared.CRecord.{CRecord}
 use Rattle.crossing.specs.declared.CResult.{CResult}
 use Rattle.crossing.specs.declared.CSeen.{CSeen}
 use Rattle.crossing.specs.declared.CWindow.{CWindow}
-use Rattle.crossing.specs.Numbers.{Given, givenOf, calledOf, begun, resultOf, seenOf, keeping, noHalf, windowOf, opened}
-use Rattle.crossing.specs.Crossing.{nowhere, taken, back, freshBack, Narrow, NarrowPlace}
+use Rattle.crossing.specs.Numbers.{Given, givenOf, calledOf, begun, resultOf, crossed, seenOf, keeping, noHalf, windowOf, opened}
+use Rattle.crossing.specs.Crossing.{nowhere, taken, back, freshBack, Narrow, NarrowPlace, NarrowSeen}
 use Rattle.crossing.proofs.ShapeFirst.{nowhere-bad, shape-first, window-shape}
 use Rattle.crossing.proofs.Laws.{record-law}
 use Rattle.crossing.proofs.FreeIndexes.{step-narrow, window-narrow}
@@ -77,14 +84,44 @@ keeps {o = o} returns c H R k n e f g = crosses (keeping returns) c H R k e f (�
     comes-back = ap (back c) left ∙ back-taken c
 
 -- inspect, in numbers already
-pub seen : {q : Record} {t : Told} {r : CSeen} (c : CRecord) (H R : List ℕ) (root : ℕ)
-    → q ≡ taken c → t ≡ told (inspect tuple root (stateOf H R q) .answer)
-    → r ≡ seenOf t → givenOf (r, c) H R ≡ calledOf (keeping seenOf) (inspect tuple root) H R c
+pub seen : {q : Record} {t : Seen} {r : CSeen} (c : CRecord) (H R : List ℕ) (root : ℕ)
+    → q ≡ taken c → t ≡ Places.seenOf (told (inspect tuple root (stateOf H R q) .answer))
+    → r ≡ crossed t → givenOf (r, c) H R ≡ calledOf (keeping seenOf) (inspect tuple root) H R c
 unfolding step
 seen {q} c H R root e f g =
     let s = stateOf H R q in
     keeps {o = record { answer = inspect tuple root s .answer; «record» = q }} seenOf c H R (Ask.Inspect root) refl e
-    (λ i. says (inspect tuple root s .answer) (sym (inspect-stays tuple root s) i)) (g ∙ ap seenOf f)
+    (λ i. says (inspect tuple root s .answer) (sym (inspect-stays tuple root s) i)) (g ∙ ap crossed f)
+
+-- no number of a refusal, and none for what a root holds, needs more than 16 bits
+number-narrow : (k : Refusal) → number k < 65536
+number-narrow Why.Shape = omega arith
+number-narrow Why.Root = omega arith
+number-narrow Why.Count = omega arith
+number-narrow Why.Range = omega arith
+number-narrow Why.Object = omega arith
+number-narrow Why.Kind = omega arith
+number-narrow Why.Field = omega arith
+number-narrow Why.Damaged = omega arith
+number-narrow Why.Room = omega arith
+
+told-narrow : (a : Answer) → NarrowSeen (Places.seenOf (told a))
+told-narrow Says.Done = omega arith
+told-narrow (Says.Live n) = omega arith
+told-narrow Says.Sound = omega arith
+told-narrow Says.Unsound = omega arith
+told-narrow Says.Yes = omega arith
+told-narrow Says.No = omega arith
+told-narrow Says.Null = omega arith
+told-narrow (Says.Integer v) = omega arith
+told-narrow (Says.Object Traced n) = omega arith
+told-narrow (Says.Object Untraced n) = omega arith
+told-narrow (Says.Code w) = omega arith
+told-narrow (Says.Number w) = omega arith
+told-narrow (Says.Refused k) = (number-narrow k, omega arith)
+
+pub seen-narrow : {t : Seen} (a : Answer) → t ≡ Places.seenOf (told a) → NarrowSeen t
+seen-narrow a e = subst NarrowSeen (sym e) (told-narrow a)
 
 -- the bounds by which the record goes back
 taken-narrow : {q : Record} (c : CRecord) → q ≡ taken c → Narrow (c .free) → Narrow (q .free .0)

@@ -41,17 +41,18 @@ module _ (Y : Layout) (s : State) (n : Narrow (free s)) where
   collected-shape e = new-shape Y s (sound-parts Y s e)
 
   pub step-narrow : (c : Call) → Narrow (free (step Y c s .left))
-  step-narrow = step-left Y s (λ t. Narrow (free t)) n (record {
+  step-narrow = step-left Y s (λ c t. Narrow (free t)) (λ c. n) (record {
     words = record {
       integer = λ r v e. n;
       null = λ r. n;
+      code = λ r w e. n;
       copied = λ from to l. n;
       loaded = λ r f to g. n;
       stored = λ r f from g l. n;
       written = λ r f x g. n;
     };
     placedNow = λ k m r a l e. placed-narrow Y s k m r (shaped s a) e;
-    collectedNow = λ e. shaped-narrow (collected Y s) (collected-shape e);
+    collectedNow = λ c e. shaped-narrow (collected Y s) (collected-shape e);
     placedThen = λ k m r e l f. placed-narrow Y (collected Y s) k m r (collected-shape e) f;
   })
 

@@ -39,13 +39,14 @@ refused next e = rw e
 
 module _ (Y : Layout) (s : State) (bad : badShape s ≡ true) where
   pub shape-first : (k : Call) → step Y k s ≡ says (Says.Refused Why.Shape) s
-  unfolding step Calls.collect Calls.check Calls.allocate Calls.setInteger Calls.setNull Calls.copy Calls.load Calls.store
-      Calls.rawRead Calls.rawWrite Calls.same Calls.inspect
+  unfolding step Calls.collect Calls.check Calls.allocate Calls.setInteger Calls.setNull Calls.setCode Calls.copy Calls.load
+      Calls.store Calls.rawRead Calls.rawWrite Calls.same Calls.inspect
   shape-first Ask.Collect = refused _ bad
   shape-first Ask.Check = refused _ bad
   shape-first (Ask.Allocate k n r) = refused _ bad
   shape-first (Ask.SetInteger r v) = refused _ bad
   shape-first (Ask.SetNull r) = refused _ bad
+  shape-first (Ask.SetCode r w) = refused _ bad
   shape-first (Ask.Copy p q) = refused _ bad
   shape-first (Ask.Load r f q) = refused _ bad
   shape-first (Ask.Store r f q) = refused _ bad

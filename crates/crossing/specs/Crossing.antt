@@ -8,6 +8,7 @@ use Rattle.model.specs.declared.Record.{Record}
 use Rattle.model.specs.declared.Place.{Place}
 use Rattle.model.specs.declared.Place.the-variants.{Object, Refused}
 use Rattle.model.specs.declared.Told.{Told}
+use Rattle.numbers.specs.declared.seen.Seen.{Seen}
 use Rattle.crossing.specs.declared.CRecord.{CRecord}
 use Rattle.crossing.specs.Numbers.{noHalf, numbersOf, recordOf}
 
@@ -34,3 +35,7 @@ Narrow n = n < 4_294_967_296
 abbrev pub NarrowPlace : Place → Type 0
 NarrowPlace (Object i n) = Narrow (i .0 + 1)
 NarrowPlace (Refused k) = Unit {0}
+
+-- the two numbers that C gets in 16 bits each
+abbrev pub NarrowSeen : Seen → Type 0
+NarrowSeen s = (s .refusal < 65_536) × (s .holds < 65_536)

@@ -18,6 +18,8 @@ use Rattle.model.specs.Words.{State, stateOf, at}
 use Rattle.model.specs.Shape.{badLength}
 use Rattle.model.specs.Answers.{Outcome, number, told}
 use Rattle.model.specs.Calls.{fresh}
+use Rattle.numbers.specs.declared.seen.Seen.{Seen}
+use Rattle.numbers.specs.Places as Places
 use Rattle.crossing.specs.declared.CRecord.{CRecord}
 use Rattle.crossing.specs.declared.CResult.{CResult}
 use Rattle.crossing.specs.declared.CCollected.{CCollected}
@@ -25,9 +27,9 @@ use Rattle.crossing.specs.declared.CAnswer.{CAnswer}
 use Rattle.crossing.specs.declared.CSeen.{CSeen}
 use Rattle.crossing.specs.declared.CWindow.{CWindow}
 
--- 0.2.0, as major * 1,000,000 + minor * 1,000 + patch
+-- 0.3.0, as major * 1,000,000 + minor * 1,000 + patch
 abbrev pub version : ℕ
-version = 2_000
+version = 3_000
 
 -- ---- records: half A is 0, half B is 1, and no other number is a half
 
@@ -56,8 +58,12 @@ collectedOf t c = record { refusal = t .refusal; live = t .value; «record» = c
 abbrev pub answerOf : Told → CAnswer
 answerOf t = record { refusal = t .refusal; value = t .value }
 
+-- inspect's, whose numbers have a place of their own each
+abbrev pub crossed : Seen → CSeen
+crossed s = record { refusal = s .refusal; kind = s .holds; integer = s .integer; count = s .count; code = s .code }
+
 abbrev pub seenOf : Told → CSeen
-seenOf t = record { refusal = t .refusal; kind = t .holds; integer = t .integer; count = t .value }
+seenOf t = crossed (Places.seenOf t)
 
 -- of a call that hands no record back: what it returns, beside the record that it leaves
 abbrev pub keeping : {T : Type 0} → (Told → T) → Told → CRecord → T × CRecord

@@ -4,7 +4,7 @@ ghost use mathlib.Core.Path.{_≡_};
 ghost use Rattle.model.specs.declared.Answer.the-variants as Says;
 ghost use Rattle.model.specs.Answers.{told};
 ghost use Rattle.crossing.specs.Numbers as Numbers;
-ghost use Rattle.crossing.specs.Crossing.{taken, back, freshBack, Narrow, NarrowPlace};
+ghost use Rattle.crossing.specs.Crossing.{taken, back, freshBack, Narrow, NarrowPlace, NarrowSeen};
 use model::Answer;
 use model::Answered;
 use model::Half;
@@ -12,8 +12,8 @@ use model::Index;
 use model::Place;
 use model::Record;
 use model::Refusal;
-use model::Told;
 use numbers::number;
+use numbers::seen::Seen;
 
 #[repr(C)]
 pub struct CRecord {
@@ -43,12 +43,14 @@ pub struct CAnswer {
     pub value: u32,
 }
 
+// Sixteen bits are enough for a refusal's number and for what a root holds, and C gets all in two registers.
 #[repr(C)]
 pub struct CSeen {
-    pub refusal: u32,
-    pub kind: u32,
+    pub refusal: u16,
+    pub kind: u16,
     pub integer: i32,
     pub count: u32,
+    pub code: u32,
 }
 
 // The words of the fields are `count` words of the heap, from the index `first` on.
@@ -168,14 +170,18 @@ pub fn answer_of(answer: Answer) -> CAnswer
 }
 
 // What inspect found, in numbers already: an answer with an integer or a count in it would go through memory.
-pub fn seen_of(told: Told) -> CSeen
-    ensures { λ r. ⌜ r ≡ Numbers.seenOf told ⌝ }
+pub fn seen_of(seen: Seen) -> CSeen
+    requires { ⌜ NarrowSeen seen ⌝ }
+    ensures { λ r. ⌜ r ≡ Numbers.crossed seen ⌝ }
 {
+    let refusal = seen.refusal as u16;
+    let kind = seen.holds as u16;
     CSeen {
-        refusal: told.refusal,
-        kind: told.holds,
-        integer: told.integer,
-        count: told.value,
+        refusal,
+        kind,
+        integer: seen.integer,
+        count: seen.count,
+        code: seen.code,
     }
 }
 

@@ -4,8 +4,8 @@ ghost use Rattle.model.specs.Headers.{tuple};
 ghost use Rattle.engine_moving.specs.Moving.{left, relocated, renamed, MayMove, MayRename};
 use model::Address;
 use model::Index;
-use words::tuple;
 use words::tuple::Tuple;
+use words::values::is_address;
 
 // What a word that is renamed led to: no object, one that is copied now, or one that was copied before.
 pub enum Met {
@@ -65,7 +65,7 @@ pub fn rename(heap: &mut [u32], word: u32, free: Index) -> Renamed
     ensures { λ r. ⌜ left (now (heap .exit)) (r .word) (r .free .0) (r .met)
         ≡ renamed tuple (now (heap .entry)) word (free .0) ⌝ }
 {
-    if tuple::is_address(word) {
+    if is_address(word) {
         let m = relocate(heap, Tuple::index_of(Address(word)), free);
         let free = m.free;
         let met = m.met;

@@ -38,6 +38,18 @@ pub(crate) fn set_null(heap: &mut [u32], roots: &mut [u32], record: Record, to: 
     blind::set_null(heap, roots, record, to)
 }
 
+pub(crate) fn set_code(
+    heap: &mut [u32],
+    roots: &mut [u32],
+    record: Record,
+    to: usize,
+    word: u32,
+) -> Answered
+    ensures { λ r. ⌜ outcome r heap roots ≡ Calls.setCode to word (lent heap roots «record») ⌝ }
+{
+    blind::set_code(heap, roots, record, to, word)
+}
+
 pub(crate) fn copy(
     heap: &mut [u32],
     roots: &mut [u32],

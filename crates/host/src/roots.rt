@@ -1,4 +1,5 @@
-// The calls on roots: set to an integer, set to null, copy, same, inspect. None changes the record.
+// The calls on roots: set to an integer, to null, to a code word, copy, same, inspect. None changes the
+// record.
 ghost use mathlib.Core.Path.{_≡_};
 ghost use Rattle.model.specs.Headers as Layouts;
 ghost use Rattle.model.specs.Contracts.{thinLent, thinOutcome};
@@ -29,6 +30,23 @@ pub fn set_null(heap: &mut [u32], roots: &mut [u32], record: &mut Record, to: us
     ensures { λ r. ⌜ thinOutcome r heap roots «record» ≡ Calls.setNull to (thinLent heap roots «record») ⌝ }
 {
     let answered = by_value::set_null(heap, roots, *record, to);
+    *record = answered.record;
+    answered.answer
+}
+
+// Root `to` gets a code word: done, or SHAPE, ROOT or RANGE. Leaves the heap and the record, and looks at no
+// heap word.
+pub fn set_code(
+    heap: &mut [u32],
+    roots: &mut [u32],
+    record: &mut Record,
+    to: usize,
+    word: u32,
+) -> Answer
+    ensures { λ r. ⌜ thinOutcome r heap roots «record»
+        ≡ Calls.setCode to word (thinLent heap roots «record») ⌝ }
+{
+    let answered = by_value::set_code(heap, roots, *record, to, word);
     *record = answered.record;
     answered.answer
 }
@@ -66,8 +84,8 @@ pub fn same(
     answered.answer
 }
 
-// What a root holds: null, an integer, or an object with its kind and field count; or SHAPE, ROOT or OBJECT.
-// Leaves all as it was. Of the heap it looks at the header that the root names, and at no field.
+// What a root holds: null, an integer, a code word, or an object with its kind and field count; or SHAPE, ROOT
+// or OBJECT. Leaves all as it was. Of the heap it looks at the header that the root names, and at no field.
 pub fn inspect(heap: &mut [u32], roots: &mut [u32], record: &mut Record, root: usize) -> Answer
     ensures { λ r. ⌜ thinOutcome r heap roots «record»
         ≡ Calls.inspect Layouts.tuple root (thinLent heap roots «record») ⌝ }

@@ -4,14 +4,16 @@ use mathlib.Core.Path.{_≡_}
 use mathlib.Core.List.{map}
 use Rattle.model.specs.Worked as Worked
 use Rattle.model.specs.Worked.{ran, expected}
+use Rattle.model.specs.CodeWords as CodeWords
 use Rattle.model.specs.Unnamed as Unnamed
 use Rattle.model.specs.Unsound as Unsound
 use Rattle.model.specs.EachCall as EachCall
 use Rattle.model.specs.Edges as Edges
 
--- the paper's cases, each clause of "names an object" and of "sound" broken alone, each call, and each limit
+-- the papers' cases, each clause of "names an object" and of "sound" broken alone, each call, and each limit
 pub record AllCases : Type 0 where
   pub worked : map ran Worked.cases ≡ map expected Worked.cases
+  pub coded : map ran CodeWords.codes ≡ map expected CodeWords.codes
   pub unnamed : map ran Unnamed.namings ≡ map expected Unnamed.namings
   pub unsound : map ran Unsound.judgements ≡ map expected Unsound.judgements
   pub called : map ran EachCall.calls ≡ map expected EachCall.calls
@@ -20,6 +22,7 @@ pub record AllCases : Type 0 where
 pub all-cases : AllCases
 all-cases = record {
   worked = Worked.worked;
+  coded = CodeWords.coded;
   unnamed = Unnamed.unnamed;
   unsound = Unsound.unsound;
   called = EachCall.called;

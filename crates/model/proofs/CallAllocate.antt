@@ -17,7 +17,7 @@ use Rattle.model.specs.Collection.{live, collected}
 use Rattle.model.specs.Demand3 as D3
 use Rattle.model.specs.Graph.{Graph}
 use Rattle.model.specs.GraphCalls.{grown, graphStep}
-use Rattle.model.specs.Headers.{Layout, WritesBoth}
+use Rattle.model.specs.Headers.{Layout, WritesBoth, Adjacent}
 use Rattle.model.specs.Limits.{maxFields}
 use Rattle.model.specs.Sessions.{step}
 use Rattle.model.specs.Words.{State, halfWords}
@@ -98,7 +98,7 @@ pub record Full (Y : Layout) (c : Call) (s : State) (g : Graph) (o : Outcome Sta
   pub answers : o .answer ≡ D3.noRoom
   pub stands : Represents Y (o .left) g
 
-module _ (Y : Layout) (law : WritesBoth Y) where
+module _ (Y : Layout) (law : WritesBoth Y) (near : Adjacent Y) where
   pub allocate-agrees : (k : Kind) (n r : ℕ) (s : State) (g : Graph) → Represents Y s g
       → Full Y (Ask.Allocate k n r) s g (step Y (Ask.Allocate k n r) s) ⊎ Agrees Y (step Y (Ask.Allocate k n r) s)
       (graphStep (Ask.Allocate k n r) g)
@@ -127,7 +127,7 @@ module _ (Y : Layout) (law : WritesBoth Y) where
       go o l u (later f) =
           inr (
             refl,
-            place-represents Y law (collected Y s) g (collect-represents Y s g m) k n r u
+            place-represents Y law (collected Y s) g (collect-represents Y near s g m) k n r u
                 (omega (arith, spare-after Y s (parts m))),
           )
       go o l u (never-fits f) =
@@ -139,5 +139,5 @@ module _ (Y : Layout) (law : WritesBoth Y) where
             named = l;
             small = u;
             answers = refl;
-            stands = collect-represents Y s g m;
+            stands = collect-represents Y near s g m;
           })

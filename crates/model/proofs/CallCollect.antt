@@ -15,7 +15,7 @@ use Rattle.model.specs.Discovery.{packed}
 use Rattle.model.specs.Graph.{null, Value, plain, object, Object, traced, untraced, Graph, nth, rootValue, valueLeads}
 use Rattle.model.specs.Graph.{objectCells, graphCells, itself, totalWords, graphOrder, graphLive}
 use Rattle.model.specs.GraphCalls.{graphStep}
-use Rattle.model.specs.Headers.{Layout}
+use Rattle.model.specs.Headers.{Layout, Adjacent}
 use Rattle.model.specs.Objects.{address, index, kind, fieldCount, size, fieldWords}
 use Rattle.model.specs.Sessions.{step}
 use Rattle.model.specs.Values.{isAddress}
@@ -37,8 +37,9 @@ use Rattle.model.specs.Represents.{Encodes, Holds, Represents}
 use Rattle.model.proofs.Represents.{parts, plain-no-address, Agrees, header-is-address}
 use Rattle.model.proofs.Shape.{unshaped}
 use Rattle.model.proofs.Soundness.{sound-whole}
+use Rattle.model.proofs.WordSorts.{became-stays}
 
-module _ (Y : Layout) (s : State) (g : Graph) (m : Represents Y s g) where
+module _ (Y : Layout) (near : Adjacent Y) (s : State) (g : Graph) (m : Represents Y s g) where
   abbrev A : Option ℕ → Option ℕ → Type 0
   A = Along (m .kept) (m .headerOf) (m .apart)
 
@@ -46,7 +47,7 @@ module _ (Y : Layout) (s : State) (g : Graph) (m : Represents Y s g) where
   unfolding wordLeads
   rep-along (plain p) w e = rw (e .1, plain-no-address p (e .0))
   rep-along (object x) w e =
-      (e .0, rw (e .1, header-is-address Y s (parts m) (m .headerOf x) (m .head x (e .0)), index-address Y (m .headerOf x)))
+      (e .0, rw (e .1, header-is-address Y s (parts m) (m .headerOf x) (m .head x (e .0)) near, index-address Y (m .headerOf x)))
 
   -- the cells of an object, in both
   object-size : (b : Object) (i : ℕ) → i + size Y (s .heap) i ≤ length (s .heap)
@@ -166,9 +167,9 @@ module _ (Y : Layout) (s : State) (g : Graph) (m : Represents Y s g) where
   -- a value and what its word became
   became : (v : Value) (w w′ : ℕ) → Encodes Y (m .kept) (m .headerOf) v w → D.Became Y s w w′
       → (isAddress w ≡ true → D.Reach Y s (index Y w)) → Encodes Y kept′ headerOf′ v w′
-  became (plain p) w w′ e b r = (e .0, b .stays (rw (e .1) (plain-no-address p (e .0))) ∙ e .1)
+  became (plain p) w w′ e b r = (e .0, became-stays Y s w w′ b (rw (e .1) (plain-no-address p (e .0))) ∙ e .1)
   became (object x) w w′ e b r =
-      let p : isAddress w ≡ true = rw (e .1) (header-is-address Y s (parts m) (m .headerOf x) (m .head x (e .0))) in
+      let p : isAddress w ≡ true = rw (e .1) (header-is-address Y s (parts m) (m .headerOf x) (m .head x (e .0)) near) in
       let d : index Y w ≡ m .headerOf x = rw (e .1) (index-address Y (m .headerOf x)) in
       (reach-kept x (e .0) (subst (D.Reach Y s) d (r p)), b .moves p ∙ ap (λ z. address Y (D.copyIndex Y s z)) d)
 

@@ -20,7 +20,7 @@ use Rattle.model.specs.Calls.{isOfKind, onField}
 use Rattle.model.specs.Changes.{noRoot, rootWord, withWord}
 use Rattle.model.specs.Graph.{null, Value, plain, object, Object, traced, untraced, Graph, nth, rootValue}
 use Rattle.model.specs.GraphCalls.{graphWithRoot, withObject, byKind, onObject, wrongKind, graphStep}
-use Rattle.model.specs.Headers.{Layout}
+use Rattle.model.specs.Headers.{Layout, Adjacent}
 use Rattle.model.specs.Objects.{isTraced, fieldIndex, address, index, kind, fieldCount, names}
 use Rattle.model.specs.Sessions.{step}
 use Rattle.model.specs.Soundness.{headers, isValue}
@@ -46,6 +46,8 @@ module _ (Y : Layout) where
   holds-kept kept headerOf H H′ (untraced ws) i e k h =
       (ap (λ x. Y .kindOf x) e ∙ h .0, ap (λ x. Y .countOf x) e ∙ h .1, λ f l. rw (k f (let z = h .1 in omega arith)) (h .2 f l))
 
+-- where a code word is no object's address
+module _ (Y : Layout) (near : Adjacent Y) where
   -- the object that a value's word names, or OBJECT in both
   on-object : (s : State) (g : Graph) (m : Represents Y s g) (k : Kind) (v : Value) (w f : ℕ) (next : Outcome State)
       (t : ℕ → List Value → Outcome Graph) (u : ℕ → List ℕ → Outcome Graph)
@@ -61,7 +63,7 @@ module _ (Y : Layout) where
   on-object s g m k (object x) w f next t u e a =
       let i = m .headerOf x in
       let hd = m .head x (e .0) in
-      let n : names Y s w ≡ true = rw (e .1) (header-names Y s (parts m) i hd) in
+      let n : names Y s w ≡ true = rw (e .1) (header-names Y s (parts m) i hd near) in
       let d : index Y w ≡ i = rw (e .1) (index-address Y i) in
       rw (n, d) (a x (e .0) (e .1))
 
@@ -159,7 +161,7 @@ module _ (Y : Layout) where
             (rw (getD-set-same (g .objects) x b (traced []) (m .known x i)) h))
             (λ (d : y ≡ x → ⊥).
             rw (getD-set-other (g .objects) x y b (traced []) d)
-            (holds-kept (m .kept) (m .headerOf) (s .heap) H′ (nth g y) (m .headerOf y)
+            (holds-kept Y (m .kept) (m .headerOf) (s .heap) H′ (nth g y) (m .headerOf y)
             (getD-set-other (s .heap) (m .headerOf x + 1 + f) (m .headerOf y) w 0
             (field-no-header Y s (parts m) (m .headerOf x) f (m .headerOf y) hd l (m .head y j)))
             (λ k a. getD-set-other (s .heap) (m .headerOf x + 1 + f) (m .headerOf y + 1 + k) w 0

@@ -17,14 +17,14 @@ use Rattle.model.specs.declared.Call.the-variants as Ask
 use Rattle.model.specs.Calls as Calls
 use Rattle.model.specs.Answers.{says, refuse}
 use Rattle.model.specs.Changes.{noRoot, rootWord, withRoot}
-use Rattle.model.specs.Graph.{Plain, integer, null, Value, plain, object, Object, traced, untraced, Graph, nth}
+use Rattle.model.specs.Graph.{Plain, integer, null, code, Value, plain, object, Object, traced, untraced, Graph, nth}
 use Rattle.model.specs.Graph.{rootValue}
 use Rattle.model.specs.GraphCalls.{graphWithRoot, sameInteger, samePlain, sameValue, byKind, inspected, graphStep}
-use Rattle.model.specs.Headers.{Layout}
+use Rattle.model.specs.Headers.{Layout, Adjacent}
 use Rattle.model.specs.Limits.{maxInteger}
 use Rattle.model.specs.Objects.{address, index, kind, fieldCount, names}
 use Rattle.model.specs.Sessions.{step}
-use Rattle.model.specs.Values.{isOdd, isNull, isAddress, inRange, tag, untag}
+use Rattle.model.specs.Values.{isOdd, isNull, isAddress, isCode, inRange, tag, untag}
 use Rattle.model.specs.Words.{State, at}
 use Rattle.model.proofs.Deciding.{tests-sound}
 use Rattle.model.proofs.Integers.{tag-odd, tag-is-odd, untag-tag}
@@ -33,9 +33,48 @@ use Rattle.model.proofs.Members.{In}
 use Rattle.model.proofs.Objects.{index-address}
 use Rattle.model.specs.Represents.{plainWord, hasWord, Encodes, Holds, Represents}
 use Rattle.model.proofs.Represents.{parts, plain-no-address, Agrees, refuse-agrees, roots-agree, rep-value}
-use Rattle.model.proofs.Represents.{header-not-null, header-not-odd, header-is-address, header-names}
+use Rattle.model.proofs.Represents.{header-not-null, header-not-odd, header-is-address, header-no-code, header-names}
 use Rattle.model.proofs.Soundness.{sound-whole}
 use Rattle.model.proofs.Tests.{never, same?, or-none}
+use Rattle.model.proofs.WordSorts.{code-parts}
+
+-- two words are equal exactly where their values are the same
+eqb-both : (a b c d : ℕ) → (a ≡ b → c ≡ d) → (c ≡ d → a ≡ b) → eqb a b ≡ eqb c d
+eqb-both a b c d f g =
+    ⊎-elim
+    (λ (e : a ≡ b). eq-eqb a b e ∙ sym (eq-eqb c d (f e)))
+    (λ (n : a ≡ b → ⊥). ne-eqb a b n ∙ sym (ne-eqb c d (λ e. n (g e))))
+    (same? a b)
+
+same-tag : (a b : ℤ) → inRange a ≡ true → inRange b ≡ true → eqb (tag a) (tag b) ≡ sameInteger a b
+same-tag (pos a) (pos b) h k = eqb-both (2 * a + 1) (2 * b + 1) a b (λ e. omega arith) (λ e. omega arith)
+same-tag (pos a) (negsuc b) h k =
+    let x = leb-true a maxInteger h in
+    let y = leb-true b maxInteger k in
+    ne-eqb (2 * a + 1) (4294967295 - 2 * b) (λ e. omega arith)
+same-tag (negsuc a) (pos b) h k =
+    let x = leb-true a maxInteger h in
+    let y = leb-true b maxInteger k in
+    ne-eqb (4294967295 - 2 * a) (2 * b + 1) (λ e. omega arith)
+same-tag (negsuc a) (negsuc b) h k =
+    let x = leb-true a maxInteger h in
+    let y = leb-true b maxInteger k in
+    eqb-both (4294967295 - 2 * a) (4294967295 - 2 * b) a b (λ e. omega arith) (λ e. omega arith)
+
+-- an integer's word is odd, and those of null and code are not
+odd-apart : (v : ℤ) (w : ℕ) → inRange v ≡ true → w % 2 ≡ 0 → tag v ≡ w → ⊥
+odd-apart v w h e z = let o = tag-odd v h in omega (arith, ap (λ x. x % 2) z)
+
+same-plain : (a b : Plain) → hasWord a ≡ true → hasWord b ≡ true → eqb (plainWord a) (plainWord b) ≡ samePlain a b
+same-plain (integer a) (integer b) h k = same-tag a b h k
+same-plain (integer a) null h k = ne-eqb (tag a) 0 (odd-apart a 0 h refl)
+same-plain (integer a) (code w) h k = ne-eqb (tag a) w (odd-apart a w h (code-parts w k .0))
+same-plain null (integer b) h k = ne-eqb 0 (tag b) (λ z. odd-apart b 0 k refl (sym z))
+same-plain null null h k = refl
+same-plain null (code w) h k = ne-eqb 0 w (λ z. let p = code-parts w k .1 in omega arith)
+same-plain (code v) (integer b) h k = ne-eqb v (tag b) (λ z. odd-apart b v k (code-parts v h .0) (sym z))
+same-plain (code v) null h k = ne-eqb v 0 (λ z. let p = code-parts v h .1 in omega arith)
+same-plain (code v) (code w) h k = refl
 
 module _ (Y : Layout) where
   -- a root is set
@@ -83,6 +122,14 @@ module _ (Y : Layout) where
       roots-agree Y (r ∷ []) s g _ _ m (λ a.
       (refl, root-represents s g m r 0 (plain null) (refl, refl)))
 
+  pub setCode-agrees : (r w : ℕ) (s : State) (g : Graph) → Represents Y s g
+      → Agrees Y (step Y (Ask.SetCode r w) s) (graphStep (Ask.SetCode r w) g)
+  unfolding step Calls.setCode graphStep
+  setCode-agrees r w s g m =
+      roots-agree Y (r ∷ []) s g _ _ m (λ a.
+      refuse-agrees Y (not (isCode w)) (not (isCode w)) Why.Range s g _ _ m refl (λ b.
+      (refl, root-represents s g m r w (plain (code w)) (not-false (isCode w) b, refl))))
+
   pub copy-agrees : (p q : ℕ) (s : State) (g : Graph) → Represents Y s g
       → Agrees Y (step Y (Ask.Copy p q) s) (graphStep (Ask.Copy p q) g)
   unfolding step Calls.copy graphStep
@@ -93,40 +140,13 @@ module _ (Y : Layout) where
             (m .roots p (has-root s g m p (or-none (noRoot s p) (noRoot s q) a .0))),
       ))
 
-  -- two words are equal exactly where their values are the same
-  eqb-both : (a b c d : ℕ) → (a ≡ b → c ≡ d) → (c ≡ d → a ≡ b) → eqb a b ≡ eqb c d
-  eqb-both a b c d f g =
-      ⊎-elim
-      (λ (e : a ≡ b). eq-eqb a b e ∙ sym (eq-eqb c d (f e)))
-      (λ (n : a ≡ b → ⊥). ne-eqb a b n ∙ sym (ne-eqb c d (λ e. n (g e))))
-      (same? a b)
-
-  same-tag : (a b : ℤ) → inRange a ≡ true → inRange b ≡ true → eqb (tag a) (tag b) ≡ sameInteger a b
-  same-tag (pos a) (pos b) h k = eqb-both (2 * a + 1) (2 * b + 1) a b (λ e. omega arith) (λ e. omega arith)
-  same-tag (pos a) (negsuc b) h k =
-      let x = leb-true a maxInteger h in
-      let y = leb-true b maxInteger k in
-      ne-eqb (2 * a + 1) (4294967295 - 2 * b) (λ e. omega arith)
-  same-tag (negsuc a) (pos b) h k =
-      let x = leb-true a maxInteger h in
-      let y = leb-true b maxInteger k in
-      ne-eqb (4294967295 - 2 * a) (2 * b + 1) (λ e. omega arith)
-  same-tag (negsuc a) (negsuc b) h k =
-      let x = leb-true a maxInteger h in
-      let y = leb-true b maxInteger k in
-      eqb-both (4294967295 - 2 * a) (4294967295 - 2 * b) a b (λ e. omega arith) (λ e. omega arith)
-
-  same-plain : (a b : Plain) → hasWord a ≡ true → hasWord b ≡ true → eqb (plainWord a) (plainWord b) ≡ samePlain a b
-  same-plain (integer a) (integer b) h k = same-tag a b h k
-  same-plain (integer a) null h k = let o = tag-odd a h in ne-eqb (tag a) 0 (λ z. omega (arith, ap (λ x. x % 2) z))
-  same-plain null (integer b) h k = let o = tag-odd b k in ne-eqb 0 (tag b) (λ z. omega (arith, ap (λ x. x % 2) z))
-  same-plain null null h k = refl
-
+-- where a code word is no object's address
+module _ (Y : Layout) (near : Adjacent Y) where
   -- a plain value's word is no object's address
   plain-apart : (s : State) (g : Graph) (m : Represents Y s g) (p : Plain) (x : ℕ) → hasWord p ≡ true → In x (m .kept)
       → plainWord p ≡ address Y (m .headerOf x) → ⊥
   plain-apart s g m p x h i e =
-      never (header-is-address Y s (parts m) (m .headerOf x) (m .head x i)) (ap isAddress (sym e) ∙ plain-no-address p h)
+      never (header-is-address Y s (parts m) (m .headerOf x) (m .head x i) near) (ap isAddress (sym e) ∙ plain-no-address p h)
 
   same-word : (s : State) (g : Graph) (m : Represents Y s g) (v v′ : Value) (w w′ : ℕ)
       → Encodes Y (m .kept) (m .headerOf) v w
@@ -152,7 +172,7 @@ module _ (Y : Layout) where
       let b = or-none (noRoot s p) (noRoot s q) a in (
         ap (λ x. cond x Says.Yes Says.No)
             (same-word s g m (rootValue g p) (rootValue g q) (rootWord s p) (rootWord s q)
-            (m .roots p (has-root s g m p (b .0))) (m .roots q (has-root s g m q (b .1)))),
+            (m .roots p (has-root Y s g m p (b .0))) (m .roots q (has-root Y s g m q (b .1)))),
         m,
       ))
 
@@ -167,15 +187,26 @@ module _ (Y : Layout) where
   inspect-word : (s : State) (g : Graph) (m : Represents Y s g) (v : Value) (w : ℕ) → Encodes Y (m .kept) (m .headerOf) v w
       → Agrees Y (cond (isOdd w) (says (Says.Integer (untag w)) s)
       (cond (isNull w) (says Says.Null s)
+      (cond (isCode w) (says (Says.Code w) s)
       (refuse (not (names Y s w)) Why.Object s
-      (says (Says.Object (kind Y (s .heap) (index Y w)) (fieldCount Y (s .heap) (index Y w))) s)))) (inspected g v)
+      (says (Says.Object (kind Y (s .heap) (index Y w)) (fieldCount Y (s .heap) (index Y w))) s))))) (inspected g v)
   unfolding inspected refuse
   inspect-word s g m (plain (integer v)) w e = rw (e .1, tag-is-odd v (e .0), untag-tag v (e .0)) (refl, m)
   inspect-word s g m (plain null) w e = rw (e .1) (refl, m)
+  inspect-word s g m (plain (code x)) w e =
+      let p = code-parts x (e .0) in
+      rw (e .1, ne-eqb (x % 2) 1 (λ o. let z = p .0 in omega arith), ne-eqb x 0 (λ n. let z = p .1 in omega arith), e .0) (refl, m)
   inspect-word s g m (object x) w e =
       let i = m .headerOf x in
       let hd = m .head x (e .0) in
-      rw (e .1, header-not-odd Y s (parts m) i hd, header-not-null Y s (parts m) i hd, header-names Y s (parts m) i hd, index-address Y i)
+      rw (
+        e .1,
+        header-not-odd Y s (parts m) i hd,
+        header-not-null Y s (parts m) i hd,
+        header-no-code Y s (parts m) i hd near,
+        header-names Y s (parts m) i hd near,
+        index-address Y i,
+      )
       (inspect-object s g m x (nth g x) (m .holds x (e .0)))
 
   pub inspect-agrees : (r : ℕ) (s : State) (g : Graph) → Represents Y s g
@@ -183,4 +214,4 @@ module _ (Y : Layout) where
   unfolding step Calls.inspect graphStep
   inspect-agrees r s g m =
       roots-agree Y (r ∷ []) s g _ _ m (λ a.
-      inspect-word s g m (rootValue g r) (rootWord s r) (m .roots r (has-root s g m r a)))
+      inspect-word s g m (rootValue g r) (rootWord s r) (m .roots r (has-root Y s g m r a)))

@@ -29,17 +29,18 @@ use Rattle.model.specs.Objects.{index, kind, fieldCount, names}
 use Rattle.model.specs.Refusals as Row
 use Rattle.model.specs.Sessions.{step}
 use Rattle.model.specs.Soundness.{sound}
-use Rattle.model.specs.Values.{isOdd, isNull, tag, untag}
+use Rattle.model.specs.Values.{isOdd, isNull, isCode, tag, untag}
 use Rattle.model.specs.Words.{State, at}
 use Rattle.model.proofs.Changed.{root-changed, word-changed, new-object}
 use Rattle.model.proofs.Collected.{new-roots}
 use Rattle.model.proofs.CollectedSound.{new-shape}
-use Rattle.model.proofs.Conditions.{roots-decide, count-decides, range-decides, object-decides, value-decides}
+use Rattle.model.proofs.Conditions.{roots-decide, count-decides, range-decides, code-decides, object-decides, value-decides}
 use Rattle.model.proofs.Conditions.{kind-decides, field-decides}
-use Rattle.model.proofs.Deciding.{shape-decides, other-address, names-decides, sound-decides}
+use Rattle.model.proofs.Deciding.{shape-decides, names-decides, sound-decides}
 use Rattle.model.proofs.Shape.{Shaped, shaped, first-in}
 use Rattle.model.proofs.Soundness.{SoundTests, sound-parts, sound-whole}
 use Rattle.model.proofs.Tests.{by-test, decide}
+use Rattle.model.proofs.WordSorts.{other-address}
 
 -- a condition that does not hold, by its test
 pub fails-test : {b : Bool} {P : Type 0} → Decides b P → (P → ⊥) → b ≡ false
@@ -103,6 +104,13 @@ module _ (Y : Layout) (s : State) where
       done-with (E.RootChanged s r 0) (withRoot s r 0) (past-roots (r ∷ []) _ (p .0) (p .1 .0))
       (root-changed s r 0 (legal r (r ∷ []) (List·Memᴰ·head refl) (p .1 .0)))
 
+  pub set-code : (r w : ℕ) → E.Passes Y (Ask.SetCode r w) s → E.Done (step Y (Ask.SetCode r w) s) (E.RootChanged s r w)
+  unfolding step Calls.setCode refuse
+  set-code r w p =
+      done-with (E.RootChanged s r w) (withRoot s r w)
+      (past-roots (r ∷ []) _ (p .0) (p .1 .0) ∙ rw (fails-test (code-decides w) (p .1 .1 .0)))
+      (root-changed s r w (legal r (r ∷ []) (List·Memᴰ·head refl) (p .1 .0)))
+
   pub copies : (from to : ℕ) → E.Passes Y (Ask.Copy from to) s
       → E.Done (step Y (Ask.Copy from to) s) (E.RootChanged s to (rootWord s from))
   unfolding step Calls.copy
@@ -158,7 +166,8 @@ module _ (Y : Layout) (s : State) where
   objectSeen w = Says.Object (kind Y (s .heap) (index Y w)) (fieldCount Y (s .heap) (index Y w))
 
   abbrev pub seen : ℕ → Answer
-  seen w = cond (isOdd w) (Says.Integer (untag w)) (cond (isNull w) Says.Null (objectSeen w))
+  seen w =
+      cond (isOdd w) (Says.Integer (untag w)) (cond (isNull w) Says.Null (cond (isCode w) (Says.Code w) (objectSeen w)))
 
   pub inspects : (r : ℕ) → E.Passes Y (Ask.Inspect r) s → step Y (Ask.Inspect r) s ≡ says (seen (rootWord s r)) s
   unfolding step Calls.inspect refuse
@@ -171,7 +180,12 @@ module _ (Y : Layout) (s : State) where
       ⊎-elim
       (λ (b : isNull (rootWord s r) ≡ true). rw (a, b))
       (λ (b : isNull (rootWord s r) ≡ false).
-      rw (a, b, not-false (names Y s (rootWord s r)) (fails-test (value-decides Y s r (other-address (rootWord s r) a b)) (p .1 .1 .0))))
+      ⊎-elim
+      (λ (c : isCode (rootWord s r) ≡ true). rw (a, b, c))
+      (λ (c : isCode (rootWord s r) ≡ false).
+      let n = value-decides Y s r (other-address (rootWord s r) a b c) in
+      rw (a, b, c, not-false (names Y s (rootWord s r)) (fails-test n (p .1 .1 .0))))
+      (by-test (isCode (rootWord s r))))
       (by-test (isNull (rootWord s r))))
       (by-test (isOdd (rootWord s r)))
 

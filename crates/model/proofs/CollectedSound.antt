@@ -1,5 +1,5 @@
 -- A collection leaves a sound state, whose objects are the copies.
-use Prim.Native.Nat.{ℕ, _+_, _*_, _-_, _≤_, _<_}
+use Prim.Native.Nat.{ℕ, _+_, _*_, _-_, _%_, _≤_, _<_}
 use native.Mathlib.Omega.{arith}
 use mathlib.Core.Path.{_≡_, sym, ap, _∙_, subst}
 use mathlib.Core.Logic.{⊎-elim}
@@ -7,6 +7,7 @@ use mathlib.Core.Bool.{true, false}
 use mathlib.Core.List.{List, [], _∷_, map}
 use lib.IntN.{pos}
 use lib.ListN.{length, length-append}
+use borrow.Author.Tests.{eqb-true}
 use Rattle.model.specs.declared.Kind.the-variants.{Traced}
 use Rattle.model.specs.Collection.{fieldCell, cells, order, live, rename, settle, collected}
 use Rattle.model.specs.Demand2 as D
@@ -28,6 +29,7 @@ use Rattle.model.proofs.Shape.{Shaped}
 use Rattle.model.proofs.Soundness.{SoundTests}
 use Rattle.model.proofs.Tests.{by-test}
 use Rattle.model.proofs.Values.{address-value, plain-value}
+use Rattle.model.proofs.WordSorts.{odd-no-address, code-no-address, became-stays}
 
 module _ (Y : Layout) (s : State) (h : SoundTests Y s) where
   abbrev s′ : State
@@ -55,7 +57,12 @@ module _ (Y : Layout) (s : State) (h : SoundTests Y s) where
   -- what a word becomes
   pub becomes : (w : ℕ) → D.Became Y s w (rename Y (s .heap) (order Y s) (otherFirst s) w)
   unfolding rename
-  becomes w = record { stays = λ p. rw p; moves = λ p. rw p }
+  becomes w = record {
+    integer = λ o. rw (odd-no-address w (eqb-true (w % 2) 1 o));
+    null = λ n. rw (eqb-true w 0 n);
+    code = λ c. rw (code-no-address w c);
+    moves = λ p. rw p;
+  }
 
   renamed-value : (w : ℕ) → (isAddress w ≡ true → In (index Y w) (order Y s))
       → isValue Y (headers Y s′) (rename Y (s .heap) (order Y s) (otherFirst s) w) ≡ true
@@ -65,7 +72,7 @@ module _ (Y : Layout) (s : State) (h : SoundTests Y s) where
       rw (becomes w .moves p, new-tiled .1)
       (address-value Y (map (D.copyIndex Y s) (order Y s)) (D.copyIndex Y s (index Y w))
       (in-map (D.copyIndex Y s) (index Y w) (order Y s) (f p))))
-      (λ (p : isAddress w ≡ false). rw (becomes w .stays p) (plain-value Y (headers Y s′) w p))
+      (λ (p : isAddress w ≡ false). rw (became-stays Y s w _ (becomes w) p) (plain-value Y (headers Y s′) w p))
       (by-test (isAddress w))
 
   pub reach-order : (j : ℕ) → D.Reach Y s j → In j (order Y s)

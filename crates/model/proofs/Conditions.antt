@@ -1,8 +1,8 @@
 -- The tests of the calls decide the conditions of document 01's rows; those of SHAPE, `names` and `sound` are in Deciding.
-use Prim.Native.Nat.{ℕ, _+_, _<_}
+use Prim.Native.Nat.{ℕ, _+_, _%_, _≤_, _<_}
 use native.Mathlib.Omega.{arith}
 use mathlib.Core.Path.{_≡_, refl, ap}
-use mathlib.Core.Logic.{⊎-elim}
+use mathlib.Core.Logic.{inl, inr, ⊎-elim}
 use mathlib.Core.Bool.{Bool, true, false, not}
 use mathlib.Core.List.{List, [], _∷_, List·Memᴰ·head, List·Memᴰ·tail, List·Memᴰ·not-nil, List·Memᴰ·cases-cons}
 use lib.Dec.{ltb, leb}
@@ -17,15 +17,16 @@ use Rattle.model.specs.Changes.{noRoot, rootWord, spare, fits}
 use Rattle.model.specs.Conditions as C
 use Rattle.model.specs.Conditions.{Decides}
 use Rattle.model.specs.Headers.{Layout}
-use Rattle.model.specs.Limits.{maxFields, maxInteger}
+use Rattle.model.specs.Limits.{maxFields, maxInteger, codeFloor}
 use Rattle.model.specs.Objects.{isTraced, index, kind, fieldCount, names}
 use Rattle.model.specs.Refusals as Row
 use Rattle.model.specs.Soundness.{sound}
-use Rattle.model.specs.Values.{isAddress, inRange}
+use Rattle.model.specs.Values.{isAddress, isCode, inRange}
 use Rattle.model.specs.Words.{State}
-use Rattle.model.proofs.Deciding.{address-parts, names-decides, sound-decides}
+use Rattle.model.proofs.Deciding.{names-decides, sound-decides}
 use Rattle.model.proofs.Objects.{kind-same}
-use Rattle.model.proofs.Tests.{never, or-cases, or-none}
+use Rattle.model.proofs.Tests.{never, same?, decide, or-cases, or-none}
+use Rattle.model.proofs.WordSorts.{address-parts, code-parts, parts-code}
 
 -- ---- roots
 
@@ -66,6 +67,22 @@ range-decides (negsuc n) = record {
   fails = λ e l. let m = leb-true n maxInteger (not-false (leb n maxInteger) e) in omega arith;
 }
 
+pub code-decides : (w : ℕ) → Decides (not (isCode w)) (Row.NoCode w)
+code-decides w = record {
+  holds = λ e.
+      ⊎-elim
+      (λ (l : w < codeFloor). inr l)
+      (λ (l : codeFloor ≤ w).
+      ⊎-elim
+      (λ (o : w % 2 ≡ 0). never (parts-code w o l) (not-true (isCode w) e))
+      (λ (o : w % 2 ≡ 0 → ⊥). inl (omega arith))
+      (same? (w % 2) 0))
+      (decide w codeFloor);
+  fails = λ e n.
+      let p = code-parts w (not-false (isCode w) e) in
+      ⊎-elim (λ (o : w % 2 ≡ 1). let z = p .0 in omega arith) (λ (l : w < codeFloor). let z = p .1 in omega arith) n;
+}
+
 -- ---- objects
 
 kind-other : (k j : Kind) → isOfKind k j ≡ false → j ≡ k → ⊥
@@ -84,7 +101,7 @@ module _ (Y : Layout) (s : State) (r : ℕ) where
   value-decides a =
       let p = address-parts (rootWord s r) a in
       record {
-        holds = λ e. record { even = p .0; notNull = p .1; namesNone = object-decides .holds e };
+        holds = λ e. record { even = p .0; notNull = p .1; belowFloor = p .2; namesNone = object-decides .holds e };
         fails = λ e n. object-decides .fails e (n .namesNone);
       }
 

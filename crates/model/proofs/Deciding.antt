@@ -1,5 +1,5 @@
 -- The tests of the definitions decide document 01's conditions: SHAPE, naming an object, soundness.
-use Prim.Native.Nat.{ℕ, zero, suc, _+_, _-_, _%_, _≤_}
+use Prim.Native.Nat.{ℕ, zero, suc, _+_, _-_, _%_, _≤_, _<_}
 use native.Mathlib.Omega.{arith}
 use mathlib.Core.Path.{_≡_, refl, sym, subst}
 use mathlib.Core.Logic.{⊎-elim}
@@ -7,25 +7,26 @@ use mathlib.Core.Bool.{true, false, not, _&&_}
 use mathlib.Core.List.{List, []}
 use lib.Dec.{ltb, leb, eqb}
 use lib.ListN.{length}
-use borrow.Author.Tests.{ltb-true, ltb-false, leb-true, eqb-true, eqb-false, eq-eqb, ne-eqb, lt-ltb, le-leb, not-true}
+use borrow.Author.Tests.{ltb-true, ltb-false, leb-true, eqb-true, eq-eqb, lt-ltb, le-leb}
 use Rattle.model.specs.Conditions as C
 use Rattle.model.specs.Conditions.{Decides}
 use Rattle.model.specs.Discovery.{mem}
 use Rattle.model.specs.Headers.{Layout}
-use Rattle.model.specs.Limits.{maxWords, maxRoots}
+use Rattle.model.specs.Limits.{maxWords, maxRoots, codeFloor}
 use Rattle.model.specs.Objects.{index, size, names}
 use Rattle.model.specs.Shape.{badLength, badShapeOf, badShape}
 use Rattle.model.specs.Soundness.{tiles, headersFrom, headers, isValue, sound}
-use Rattle.model.specs.Values.{isOdd, isNull, isAddress}
+use Rattle.model.specs.Values.{isAddress}
 use Rattle.model.specs.Words.{State, at, halfWords, firstWord, free}
 use Rattle.model.proofs.Keeping.{tile}
 use Rattle.model.proofs.Members.{In, mem-in, in-mem}
 use Rattle.model.proofs.Shape.{Shaped, GoodLength, good-length, shaped, unshaped, first-in}
 use Rattle.model.proofs.Soundness.{SoundTests, sound-parts, sound-whole}
-use Rattle.model.proofs.Tests.{by-test, never, same?, or-cases, and-both}
+use Rattle.model.proofs.Tests.{by-test, never, decide, same?, or-cases, and-both}
 use Rattle.model.proofs.Tiling.{tiles-step, tiles-le, tiles-more, tiles-here, headers-more, headers-end}
 use Rattle.model.proofs.Tiling.{headers-here}
 use Rattle.model.proofs.Values.{value-header, address-value, plain-value}
+use Rattle.model.proofs.WordSorts.{address-parts, parts-address, odd-no-address, parts-code, code-no-address}
 
 -- ---- SHAPE
 
@@ -70,23 +71,6 @@ shape-decides s = record { holds = bad; fails = λ e. not-bad (shaped s e) }
     not-bad h (C.freeBefore x) = omega (arith, h .low)
     not-bad h (C.freePast x) = omega (arith, h .high)
 
--- ---- addresses
-
--- even and not 0
-pub address-parts : (w : ℕ) → isAddress w ≡ true → (w % 2 ≡ 0) × (w ≡ 0 → ⊥)
-address-parts w e =
-    let a = and-both (eqb (w % 2) 0) (not (isNull w)) e in
-    (eqb-true (w % 2) 0 (a .0), eqb-false w 0 (not-true (isNull w) (a .1)))
-
-pub parts-address : (w : ℕ) → w % 2 ≡ 0 → (w ≡ 0 → ⊥) → isAddress w ≡ true
-parts-address w e n = rw (eq-eqb (w % 2) 0 e, ne-eqb w 0 n)
-
-pub other-address : (w : ℕ) → isOdd w ≡ false → isNull w ≡ false → isAddress w ≡ true
-other-address w e f =
-    let o : w % 2 ≡ 1 → ⊥ = eqb-false (w % 2) 1 e in
-    let z : w ≡ 0 → ⊥ = eqb-false w 0 f in
-    parts-address w (omega arith) z
-
 module _ (Y : Layout) where
   -- ---- naming an object
 
@@ -102,6 +86,7 @@ module _ (Y : Layout) where
       record {
         even = address-parts w (p₁ .0) .0;
         notNull = address-parts w (p₁ .0) .1;
+        belowFloor = address-parts w (p₁ .0) .2;
         multiple = eqb-true (w % 4) 0 (p₁ .1);
         inHalf = leb-true (firstWord s) i (p₂ .1);
         belowFree = ltb-true i (free s) (p₃ .1);
@@ -109,11 +94,15 @@ module _ (Y : Layout) where
         ends = leb-true (i + size Y (s .heap) i) (free s) (p₅ .1);
       }
 
+  -- an object is named by an address
+  pub named-address : (s : State) (w : ℕ) → C.Names Y s w → isAddress w ≡ true
+  named-address s w n = parts-address w (n .even) (n .notNull) (n .belowFloor)
+
   pub names-true : (s : State) (w : ℕ) → C.Names Y s w → names Y s w ≡ true
   unfolding names
   names-true s w n =
       rw (
-        parts-address w (n .even) (n .notNull),
+        named-address s w n,
         eq-eqb (w % 4) 0 (n .multiple),
         le-leb (firstWord s) (index Y w) (n .inHalf),
         lt-ltb (index Y w) (free s) (n .belowFree),
@@ -170,7 +159,11 @@ module _ (Y : Layout) where
       (λ (z : w ≡ 0). C.null z)
       (λ (z : w ≡ 0 → ⊥).
       ⊎-elim
-      (λ (o : w % 2 ≡ 0). never (parts-address w o z) p)
+      (λ (o : w % 2 ≡ 0).
+      ⊎-elim
+      (λ (l : w < codeFloor). never (parts-address w o z l) p)
+      (λ (l : codeFloor ≤ w). C.code o l)
+      (decide w codeFloor))
       (λ (o : w % 2 ≡ 0 → ⊥). C.odd (omega arith))
       (same? (w % 2) 0))
       (same? w 0))
@@ -183,8 +176,9 @@ module _ (Y : Layout) where
           (or-cases (not (isAddress w)) (eqb (w % 4) 0 && mem (index Y w) hs) v)
 
   valid-value : (hs : List ℕ) (w : ℕ) → C.Valid Y hs w → isValue Y hs w ≡ true
-  valid-value hs w (C.odd o) = plain-value Y hs w (rw (ne-eqb (w % 2) 0 (λ z. omega arith)))
+  valid-value hs w (C.odd o) = plain-value Y hs w (odd-no-address w o)
   valid-value hs w (C.null z) = plain-value Y hs w (rw z)
+  valid-value hs w (C.code e l) = plain-value Y hs w (code-no-address w (parts-code w e l))
   valid-value hs w (C.header i m e) = rw e (address-value Y hs i (mem-in i hs m))
 
   -- ---- soundness

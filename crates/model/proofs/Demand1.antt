@@ -104,6 +104,7 @@ module _ (Y : Layout) where
   rows-rise (Ask.Allocate k n r) s = omega arith
   rows-rise (Ask.SetInteger r v) s = omega arith
   rows-rise (Ask.SetNull r) s = omega arith
+  rows-rise (Ask.SetCode r w) s = omega arith
   rows-rise (Ask.Copy p q) s = omega arith
   rows-rise (Ask.Load r f q) s = omega arith
   rows-rise (Ask.Store r f q) s = omega arith

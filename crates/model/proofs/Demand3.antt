@@ -15,7 +15,7 @@ use Rattle.model.specs.Answers.{refuse}
 use Rattle.model.specs.Demand3 as D3
 use Rattle.model.specs.Graph.{Graph, emptyGraph, totalWords, graphOrder}
 use Rattle.model.specs.GraphCalls.{graphStep, graphAfter}
-use Rattle.model.specs.Headers.{Layout, WritesBoth, tuple}
+use Rattle.model.specs.Headers.{Layout, WritesBoth, Adjacent, tuple}
 use Rattle.model.specs.Limits.{maxFields}
 use Rattle.model.specs.Represents.{Represents}
 use Rattle.model.specs.Sessions.{step, machine, after}
@@ -26,7 +26,7 @@ use Rattle.model.proofs.Deciding.{sound-tests, tests-sound}
 use Rattle.model.proofs.GraphAnswers.{graph-room}
 use Rattle.model.proofs.GraphClosed.{session-known}
 use Rattle.model.proofs.GraphReach.{lists-whole, live-listed}
-use Rattle.model.proofs.Headers.{tuple-lawful}
+use Rattle.model.proofs.Headers.{tuple-lawful, tuple-adjacent}
 use Rattle.model.proofs.KeepSound.{stays-sound}
 use Rattle.model.proofs.PlainAnswers.{not-room, done-plainly}
 use Rattle.model.proofs.Represents.{parts, represents-known, Agrees}
@@ -66,7 +66,7 @@ module _ (g : Graph) (k : Kind) (n r : ℕ) where
   unfolding graphStep refuse
   legal-carried a b = rw (lt-leb (length (g .roots)) r a, le-ltb maxFields n b)
 
-module _ (Y : Layout) (law : WritesBoth Y) where
+module _ (Y : Layout) (law : WritesBoth Y) (near : Adjacent Y) where
   module _ (s : State) (g : Graph) (m : Represents Y s g) where
     abbrev S : ℕ
     S = halfWords (s .heap)
@@ -81,7 +81,7 @@ module _ (Y : Layout) (law : WritesBoth Y) where
               ∙ ap (λ z. graphStep z g .answer) (sym (u .is)) ∙ q);
           words = u .fields + 1;
           needs = ap D3.needed (u .is);
-          exceed = omega (arith, live-same Y s g m);
+          exceed = omega (arith, live-same Y near s g m);
         }
 
     exceeds-full : (c : Call) → D3.Exceeds S g c → step Y c s .answer ≡ D3.noRoom
@@ -89,11 +89,12 @@ module _ (Y : Layout) (law : WritesBoth Y) where
         let l = allocation-legal g k n r (x .unrefused) in
         let e : n + 1 ≡ x .words = some-same (n + 1) (x .words) (x .needs) in
         allocate-room Y k n r s (parts m) (let z = l .0 in omega (arith, m .count)) (l .1) .1
-        (omega (arith, x .exceed, live-same Y s g m))
+        (omega (arith, x .exceed, live-same Y near s g m))
     exceeds-full Ask.Collect x = absurd (no-some (x .words) (x .needs))
     exceeds-full Ask.Check x = absurd (no-some (x .words) (x .needs))
     exceeds-full (Ask.SetInteger r v) x = absurd (no-some (x .words) (x .needs))
     exceeds-full (Ask.SetNull r) x = absurd (no-some (x .words) (x .needs))
+    exceeds-full (Ask.SetCode r w) x = absurd (no-some (x .words) (x .needs))
     exceeds-full (Ask.Copy from to) x = absurd (no-some (x .words) (x .needs))
     exceeds-full (Ask.Load r f to) x = absurd (no-some (x .words) (x .needs))
     exceeds-full (Ask.Store r f from) x = absurd (no-some (x .words) (x .needs))
@@ -107,36 +108,36 @@ module _ (Y : Layout) (law : WritesBoth Y) where
       λ e.
           ⊎-elim (λ (u : Full Y c s g (step Y c s)). full-exceeds c e u)
           (λ (a : Agrees Y (step Y c s) (graphStep c g)). absurd (graph-room c g (sym (a .0) ∙ e)))
-          (step-goes Y law c s g m),
+          (step-goes Y law near c s g m),
       exceeds-full c,
     )
 
   room : (s : State) (g : Graph) → Represents Y s g → D3.RoomExactly (machine Y) (halfWords (s .heap)) s g
   room s g m cs c =
-      let t = after-represents Y law cs s g m in
+      let t = after-represents Y law near cs s g m in
       subst (λ z. (step Y c (after (machine Y) cs s) .answer ≡ D3.noRoom) ↔ D3.Exceeds z (graphAfter (D3.carriedOut (machine Y) cs s) g) c)
       (t .1)
       (room-here (after (machine Y) cs s) (graphAfter (D3.carriedOut (machine Y) cs s) g) (t .0) c)
 
   never-shape : (s : State) (g : Graph) → Represents Y s g → D3.Never (machine Y) Why.Shape s
-  never-shape s g m cs = session-refuses Y law cs s g m Why.Shape (not-room Why.Shape refl) refl
+  never-shape s g m cs = session-refuses Y law near cs s g m Why.Shape (not-room Why.Shape refl) refl
 
   never-damaged : (s : State) (g : Graph) → Represents Y s g → D3.Never (machine Y) Why.Damaged s
-  never-damaged s g m cs = session-refuses Y law cs s g m Why.Damaged (not-room Why.Damaged refl) refl
+  never-damaged s g m cs = session-refuses Y law near cs s g m Why.Damaged (not-room Why.Damaged refl) refl
 
   pub demand3-of : D3.Demand3 Y (machine Y)
   demand3-of = record {
-    sameAnswers = λ small large g m m⁺ l cs k. runs Y law cs k small large g m m⁺ l;
+    sameAnswers = λ small large g m m⁺ l cs k. runs Y law near cs k small large g m m⁺ l;
     room = room;
     live = λ s g m. live-words g (represents-known Y s g m);
     neverShape = never-shape;
     neverDamaged = never-damaged;
     keepsSound = λ s c h. tests-sound Y (step Y c s .left) (stays-sound Y s (sound-tests Y s h) law c);
-    stands = λ s g cs m. after-represents Y law cs s g m .0;
-    every = λ s w h. (_, sound-represents Y s (sound-tests Y s h) w);
+    stands = λ s g cs m. after-represents Y law near cs s g m .0;
+    every = λ s w h. (_, sound-represents Y near s (sound-tests Y s h) w);
     begins = begun-represents Y;
     freshAnswers = λ small large e l cs k.
-        runs Y law cs k (D3.begun (machine Y) small) (D3.begun (machine Y) large) (emptyGraph (small .nullRoots))
+        runs Y law near cs k (D3.begun (machine Y) small) (D3.begun (machine Y) large) (emptyGraph (small .nullRoots))
         (begun-represents Y small)
         (subst (λ n. Represents Y (D3.begun (machine Y) large) (emptyGraph n)) (sym e) (begun-represents Y large))
         (omega (arith, begun-half Y small, begun-half Y large));
@@ -144,10 +145,10 @@ module _ (Y : Layout) (law : WritesBoth Y) where
         subst (λ n. D3.RoomExactly (machine Y) n (D3.begun (machine Y) e) (emptyGraph (e .nullRoots))) (begun-half Y e)
         (room (D3.begun (machine Y) e) (emptyGraph (e .nullRoots)) (begun-represents Y e));
     freshLive = λ cs n. live-words (graphAfter cs (emptyGraph n)) (session-known cs n);
-    staysSound = λ e cs. after-represents Y law cs (D3.begun (machine Y) e) (emptyGraph (e .nullRoots)) (begun-represents Y e) .0 .ok;
+    staysSound = λ e cs. after-represents Y law near cs (D3.begun (machine Y) e) (emptyGraph (e .nullRoots)) (begun-represents Y e) .0 .ok;
     freshNeverShape = λ e. never-shape (D3.begun (machine Y) e) (emptyGraph (e .nullRoots)) (begun-represents Y e);
     freshNeverDamaged = λ e. never-damaged (D3.begun (machine Y) e) (emptyGraph (e .nullRoots)) (begun-represents Y e);
   }
 
 pub demand3 : D3.Demand3 tuple (machine tuple)
-demand3 = demand3-of tuple (tuple-lawful .writes)
+demand3 = demand3-of tuple (tuple-lawful .writes) tuple-adjacent

@@ -1,5 +1,5 @@
 -- The library's machine does what document 01's "The calls" says, where nothing refuses.
-use Prim.Native.Nat.{ℕ, _%_}
+use Prim.Native.Nat.{ℕ, _%_, _≤_}
 use native.Mathlib.Omega.{arith}
 use mathlib.Core.Path.{_≡_, refl, sym, ap, _∙_}
 use mathlib.Core.Logic.{_↔_}
@@ -15,17 +15,19 @@ use Rattle.model.specs.Conditions as C
 use Rattle.model.specs.Conditions.{Decides}
 use Rattle.model.specs.Effects as E
 use Rattle.model.specs.Headers.{Layout}
+use Rattle.model.specs.Limits.{codeFloor}
 use Rattle.model.specs.Sessions.{machine}
 use Rattle.model.specs.Soundness.{sound}
 use Rattle.model.specs.Values.{untag}
 use Rattle.model.specs.Words.{State}
-use Rattle.model.proofs.CallsPass.{fails-test, done-with, set-integer, set-null, copies, loads, stores, raw-writes}
-use Rattle.model.proofs.CallsPass.{raw-reads, checks, sames, seen, objectSeen, inspects, allocates-now}
+use Rattle.model.proofs.CallsPass.{fails-test, done-with, set-integer, set-null, set-code, copies, loads, stores}
+use Rattle.model.proofs.CallsPass.{raw-writes, raw-reads, checks, sames, seen, objectSeen, inspects, allocates-now}
 use Rattle.model.proofs.CallsPass.{allocates-then}
-use Rattle.model.proofs.Deciding.{length-decides, sound-decides}
+use Rattle.model.proofs.Deciding.{length-decides, named-address, sound-decides}
 use Rattle.model.proofs.Lists.{getD-same}
 use Rattle.model.proofs.PlainAnswers.{no-yes}
 use Rattle.model.proofs.Start.{fresh-good}
+use Rattle.model.proofs.WordSorts.{parts-code, address-no-code}
 
 -- one of two answers by a test, and the condition that the test decides
 chosen-true : {P : Type 0} (b : Bool) (x y : Answer) → Decides b P → (y ≡ x → ⊥) → (cond b x y ≡ x) ↔ P
@@ -60,8 +62,17 @@ module _ (Y : Layout) where
   seen-integer : (s : State) (w : ℕ) → w % 2 ≡ 1 → seen Y s w ≡ Says.Integer (untag w)
   seen-integer s w e = rw (eq-eqb (w % 2) 1 e)
 
+  seen-code : (s : State) (w : ℕ) → w % 2 ≡ 0 → codeFloor ≤ w → seen Y s w ≡ Says.Code w
+  seen-code s w e l =
+      rw (ne-eqb (w % 2) 1 (λ o. omega arith), ne-eqb w 0 (λ z. omega arith), parts-code w e l)
+
   seen-object : (s : State) (w : ℕ) → C.Names Y s w → seen Y s w ≡ objectSeen Y s w
-  seen-object s w n = rw (ne-eqb (w % 2) 1 (λ e. omega (arith, n .even)), ne-eqb w 0 (n .notNull))
+  seen-object s w n =
+      rw (
+        ne-eqb (w % 2) 1 (λ e. omega (arith, n .even)),
+        ne-eqb w 0 (n .notNull),
+        address-no-code w (named-address Y s w n),
+      )
 
   pub effects : E.Effects Y (machine Y)
   effects = record {
@@ -75,6 +86,7 @@ module _ (Y : Layout) where
     allocateThen = λ k n r s. allocates-then Y s k n r;
     setInteger = λ r v s. set-integer Y s r v;
     setNull = λ r s. set-null Y s r;
+    setCode = λ r w s. set-code Y s r w;
     copy = λ from to s. copies Y s from to;
     load = λ r f to s. loads Y s r f to;
     store = λ r f from s. stores Y s r f from;
@@ -91,6 +103,7 @@ module _ (Y : Layout) where
     sameLeaves = λ r q s p. ap (λ o. o .left) (sames Y s r q p);
     inspectNull = λ r s p e. ap (λ o. o .answer) (inspects Y s r p) ∙ seen-null s (rootWord s r) e;
     inspectInteger = λ r s p e. ap (λ o. o .answer) (inspects Y s r p) ∙ seen-integer s (rootWord s r) e;
+    inspectCode = λ r s p e l. ap (λ o. o .answer) (inspects Y s r p) ∙ seen-code s (rootWord s r) e l;
     inspectObject = λ r s p n. ap (λ o. o .answer) (inspects Y s r p) ∙ seen-object s (rootWord s r) n;
     inspectLeaves = λ r s p. ap (λ o. o .left) (inspects Y s r p);
   }

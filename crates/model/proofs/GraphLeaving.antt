@@ -14,7 +14,7 @@ use Rattle.model.specs.declared.Refusal.the-variants as Why
 use Rattle.model.specs.declared.Answer.the-variants as Says
 use Rattle.model.specs.declared.Call.the-variants as Ask
 use Rattle.model.specs.Answers.{Outcome, says, refuse}
-use Rattle.model.specs.Graph.{Plain, integer, null, Value, plain, object, Object, traced, untraced, Graph, nth}
+use Rattle.model.specs.Graph.{Plain, integer, null, code, Value, plain, object, Object, traced, untraced, Graph, nth}
 use Rattle.model.specs.Graph.{rootValue, graphLive}
 use Rattle.model.specs.GraphCalls.{graphWithRoot, withObject, grown, sameValue, byKind, onObject, plainAnswer}
 use Rattle.model.specs.GraphCalls.{inspected, graphStep}
@@ -80,6 +80,7 @@ module _ (g : Graph) (P : Outcome Graph → Type 0) (h : GraphKept g P) where
   step-holds (Ask.Allocate k n r) = after _ Why.Root _ refl (after _ Why.Count _ refl (holds (h .allocated k n r)))
   step-holds (Ask.SetInteger r v) = after _ Why.Root _ refl (after _ Why.Range _ refl (holds (h .set-plain r (integer v))))
   step-holds (Ask.SetNull r) = after _ Why.Root _ refl (holds (h .set-plain r null))
+  step-holds (Ask.SetCode r w) = after _ Why.Root _ refl (after _ Why.Range _ refl (holds (h .set-plain r (code w))))
   step-holds (Ask.Copy from to) = after _ Why.Root _ refl (holds (h .copied from to))
   step-holds (Ask.Load r f to) =
       after _ Why.Root _ refl

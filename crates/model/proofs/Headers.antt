@@ -6,7 +6,7 @@ use mathlib.Core.Bool.{true, false}
 use borrow.Author.Tests.{eq-eqb, ne-eqb, lt-ltb, le-ltb}
 use Rattle.model.specs.declared.Kind.{Kind}
 use Rattle.model.specs.declared.Kind.the-variants.{Traced, Untraced}
-use Rattle.model.specs.Headers.{Lawful, tuple}
+use Rattle.model.specs.Headers.{Lawful, Adjacent, tuple}
 use Rattle.model.specs.Limits.{maxFields}
 use Rattle.model.specs.Words.{addressOf}
 
@@ -38,3 +38,7 @@ tuple-lawful = record {
   writes = λ k. record { clear = tuple-clear k; counts = tuple-counts k; kinds = tuple-kinds k };
   forwards = record { marks = tuple-marks; unmarks = tuple-unmarks };
 }
+
+pub tuple-adjacent : Adjacent tuple
+unfolding tuple
+tuple-adjacent = omega arith

@@ -6,10 +6,11 @@ use mathlib.Core.Logic.{⊎-elim}
 use mathlib.Core.Bool.{true, false}
 use lib.Dec.{ltb}
 use lib.IntN.{ℤ, pos, negsuc, _+ℤ_, _*ℤ_}
-use borrow.Author.Tests.{ltb-false, leb-true, eq-eqb, ne-eqb, lt-ltb, le-ltb}
+use borrow.Author.Tests.{ltb-false, leb-true, eq-eqb, lt-ltb, le-ltb}
 use Rattle.model.specs.Limits.{maxInteger}
 use Rattle.model.specs.Values.{isOdd, isAddress, inRange, tag, untag}
 use Rattle.model.proofs.Tests.{by-test}
+use Rattle.model.proofs.WordSorts.{odd-no-address}
 
 pub tag-odd : (v : ℤ) → inRange v ≡ true → tag v % 2 ≡ 1
 tag-odd (pos n) h = omega arith
@@ -19,7 +20,7 @@ pub tag-is-odd : (v : ℤ) → inRange v ≡ true → isOdd (tag v) ≡ true
 tag-is-odd v h = eq-eqb (tag v % 2) 1 (tag-odd v h)
 
 pub tag-no-address : (v : ℤ) → inRange v ≡ true → isAddress (tag v) ≡ false
-tag-no-address v h = let o = tag-odd v h in rw (ne-eqb (tag v % 2) 0 (λ z. omega arith))
+tag-no-address v h = odd-no-address (tag v) (tag-odd v h)
 
 pub tag-word : (v : ℤ) → inRange v ≡ true → tag v < 4294967296
 tag-word (pos n) h = let l = leb-true n maxInteger h in omega arith

@@ -30,14 +30,15 @@ use Rattle.model.specs.Refusals as Row
 use Rattle.model.specs.Sessions.{step}
 use Rattle.model.specs.Shape.{badShape}
 use Rattle.model.specs.Soundness.{sound}
-use Rattle.model.specs.Values.{isOdd, isNull}
+use Rattle.model.specs.Values.{isOdd, isNull, isCode}
 use Rattle.model.specs.Words.{State}
 use Rattle.model.proofs.PlainAnswers.{not-room, Plainly, plainly, done-plainly, either-plainly, object-plainly}
-use Rattle.model.proofs.Conditions.{roots-decide, count-decides, range-decides, object-decides, value-decides}
+use Rattle.model.proofs.Conditions.{roots-decide, count-decides, range-decides, code-decides, object-decides, value-decides}
 use Rattle.model.proofs.Conditions.{kind-decides, field-decides, unsound-decides, called, uncalled, damaged-decides}
 use Rattle.model.proofs.Conditions.{room-decides}
-use Rattle.model.proofs.Deciding.{shape-decides, other-address}
+use Rattle.model.proofs.Deciding.{shape-decides}
 use Rattle.model.proofs.Tests.{cond-holds}
+use Rattle.model.proofs.WordSorts.{code-parts, other-address}
 
 -- what a call refused with k leaves: what it was lent, or the collection for ROOM
 pub data Left (Y : Layout) (s : State) (k : Refusal) (t : State) : Type 0 where
@@ -90,15 +91,18 @@ module _ (Y : Layout) (s : State) where
       judged-refuse _ Why.Kind _ _ _ refl (kind-decides Y s r n k) (λ b.
       judged-refuse _ Why.Field _ _ _ refl (field-decides Y s r n f) (λ c. by-none tt p)))
 
-  -- inspect: a word that is odd or 0 is no address
+  -- inspect: a word that is odd, 0 or a code word is no address
   odd-no-value : (r : ℕ) → isOdd (rootWord s r) ≡ true → Row.NoValue Y s r → ⊥
   odd-no-value r e v = let o = eqb-true (rootWord s r % 2) 1 e in omega (arith, v .even)
 
   null-no-value : (r : ℕ) → isNull (rootWord s r) ≡ true → Row.NoValue Y s r → ⊥
   null-no-value r e v = v .notNull (eqb-true (rootWord s r) 0 e)
 
+  code-no-value : (r : ℕ) → isCode (rootWord s r) ≡ true → Row.NoValue Y s r → ⊥
+  code-no-value r e v = let l = code-parts (rootWord s r) e .1 in omega (arith, v .belowFloor)
+
   pub step-judged : (c : Call) → Judged Y s (Row.rows Y c s) (step Y c s)
-  unfolding step Calls.collect Calls.check Calls.allocate Calls.setInteger Calls.setNull Calls.copy Calls.load Calls.store
+  unfolding step Calls.collect Calls.check Calls.allocate Calls.setInteger Calls.setNull Calls.setCode Calls.copy Calls.load Calls.store
       Calls.rawRead Calls.rawWrite Calls.same Calls.inspect
   step-judged Ask.Collect =
       judged-roots [] _ _
@@ -116,6 +120,8 @@ module _ (Y : Layout) (s : State) where
   step-judged (Ask.SetInteger r v) =
       judged-roots (r ∷ []) _ _ (judged-refuse _ Why.Range _ _ _ refl (range-decides v) (λ e. judged-says _ _ done-plainly))
   step-judged (Ask.SetNull r) = judged-roots (r ∷ []) _ _ (judged-says _ _ done-plainly)
+  step-judged (Ask.SetCode r w) =
+      judged-roots (r ∷ []) _ _ (judged-refuse _ Why.Range _ _ _ refl (code-decides w) (λ e. judged-says _ _ done-plainly))
   step-judged (Ask.Copy p q) = judged-roots (p ∷ q ∷ []) _ _ (judged-says _ _ done-plainly)
   step-judged (Ask.Load r f q) = judged-roots (r ∷ q ∷ []) _ _ (judged-field Traced r f _ done-plainly)
   step-judged (Ask.Store r f q) = judged-roots (r ∷ q ∷ []) _ _ (judged-field Traced r f _ done-plainly)
@@ -129,5 +135,7 @@ module _ (Y : Layout) (s : State) where
       (cond-holds (Judged Y s _) (isOdd (rootWord s r)) _ _ (λ a. by-none (odd-no-value r a, tt) (plainly (Says.Integer _) refl)) (λ a.
       cond-holds (Judged Y s _) (isNull (rootWord s r)) _ _
       (λ b. by-none (null-no-value r b, tt) (plainly Says.Null refl)) (λ b.
-      judged-refuse _ Why.Object _ _ _ refl (value-decides Y s r (other-address (rootWord s r) a b))
-      (λ d. judged-says _ _ (object-plainly _ _)))))
+      cond-holds (Judged Y s _) (isCode (rootWord s r)) _ _
+      (λ c. by-none (code-no-value r c, tt) (plainly (Says.Code _) refl)) (λ c.
+      judged-refuse _ Why.Object _ _ _ refl (value-decides Y s r (other-address (rootWord s r) a b c))
+      (λ d. judged-says _ _ (object-plainly _ _))))))

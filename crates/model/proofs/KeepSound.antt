@@ -14,7 +14,7 @@ use Rattle.model.specs.Soundness.{headers}
 use Rattle.model.specs.Values.{tag}
 use Rattle.model.specs.Words.{State, at}
 use Rattle.model.proofs.CollectedSound.{new-sound}
-use Rattle.model.proofs.Deciding.{parts-address, names-decides}
+use Rattle.model.proofs.Deciding.{named-address, names-decides}
 use Rattle.model.proofs.Integers.{tag-no-address}
 use Rattle.model.proofs.Keeping.{root-sound, word-sound}
 use Rattle.model.proofs.Leaving.{HasField, step-left}
@@ -23,6 +23,7 @@ use Rattle.model.proofs.Placing.{zero-value, place-sound}
 use Rattle.model.proofs.Soundness.{SoundTests}
 use Rattle.model.proofs.Tests.{never}
 use Rattle.model.proofs.Values.{value-header, plain-value}
+use Rattle.model.proofs.WordSorts.{code-no-address}
 
 module _ (Y : Layout) (s : State) (h : SoundTests Y s) where
   -- a word that names an object is, in a sound state, the address of a header of the tiling
@@ -30,13 +31,14 @@ module _ (Y : Layout) (s : State) (h : SoundTests Y s) where
   is-header k r f g =
       let n = names-decides Y s (rootWord s r) .holds (g .named) in
       value-header Y (headers Y s) (rootWord s r) (h .roots r (g .root))
-      (parts-address (rootWord s r) (n .even) (n .notNull))
+      (named-address Y s (rootWord s r) n)
 
   pub stays-sound : WritesBoth Y → (c : Call) → SoundTests Y (step Y c s .left)
-  stays-sound law = step-left Y s (SoundTests Y) h (record {
+  stays-sound law = step-left Y s (λ c t. SoundTests Y t) (λ c. h) (record {
     words = record {
       integer = λ r v e. root-sound Y s h r (tag v) (plain-value Y (headers Y s) (tag v) (tag-no-address v e));
       null = λ r. root-sound Y s h r 0 (zero-value Y (headers Y s));
+      code = λ r w e. root-sound Y s h r w (plain-value Y (headers Y s) w (code-no-address w e));
       copied = λ from to l. root-sound Y s h to (rootWord s from) (h .roots from l);
       loaded = λ r f to g.
           root-sound Y s h to (at (s .heap) (fieldIndex (index Y (rootWord s r)) f))
@@ -48,6 +50,6 @@ module _ (Y : Layout) (s : State) (h : SoundTests Y s) where
           (λ z. never (ap isTraced z) (ap isTraced (g .kind-is)));
     };
     placedNow = λ k n r a l e. place-sound Y law s h k n r l (leb-true (n + 1) (spare s) e);
-    collectedNow = λ e. new-sound Y s h;
+    collectedNow = λ c e. new-sound Y s h;
     placedThen = λ k n r e l f. place-sound Y law (collected Y s) (new-sound Y s h) k n r l (leb-true (n + 1) (spare (collected Y s)) f);
   })

@@ -1,4 +1,4 @@
--- Further laws: the window, integers and headers, lengths, and that a promise settles everything.
+-- Further laws: the window, integers and headers, objects' addresses and code words, lengths, and that a promise settles everything.
 use Prim.Native.Nat.{ℕ, _%_, _+_, _-_, _/_, _≤_, _<_}
 use native.Mathlib.Omega.{arith}
 use mathlib.Core.Path.{_≡_, refl, sym, ap, _∙_}
@@ -21,21 +21,24 @@ use Rattle.model.specs.Answers.{outcomeOf, refuse}
 use Rattle.model.specs.Calls.{fresh}
 use Rattle.model.specs.Changes.{noRoot, rootWord, fits}
 use Rattle.model.specs.Graph.{object}
-use Rattle.model.specs.Headers.{Layout, tuple}
+use Rattle.model.specs.Headers.{Layout, Adjacent, tuple}
 use Rattle.model.specs.Laws as Law
 use Rattle.model.specs.Limits.{maxFields, maxInteger}
-use Rattle.model.specs.Objects.{index, fieldCount, names}
+use Rattle.model.specs.Objects.{address, index, fieldCount, names}
 use Rattle.model.specs.Sessions.{machine}
 use Rattle.model.specs.Shape.{badLength, badShape}
-use Rattle.model.specs.Values.{inRange, untag}
+use Rattle.model.specs.Values.{isCode, inRange, untag}
 use Rattle.model.specs.Window.{window, windowWord}
 use Rattle.model.specs.Words.{State, at}
-use Rattle.model.proofs.Deciding.{names-decides}
+use Rattle.model.proofs.CallsPass.{fails-test}
+use Rattle.model.proofs.Deciding.{shape-decides, names-decides}
 use Rattle.model.proofs.Headers.{tuple-lawful}
 use Rattle.model.proofs.Integers.{tag-is-odd, tag-word, untag-tag, tag-untag, tag-modulo}
 use Rattle.model.proofs.Lengths.{step-lengths}
+use Rattle.model.proofs.Objects.{address-below}
 use Rattle.model.proofs.Shape.{shaped, first-in}
 use Rattle.model.proofs.Tests.{by-test}
+use Rattle.model.proofs.WordSorts.{code-parts}
 
 -- ---- the window
 
@@ -164,6 +167,15 @@ header-bits h l e =
 
 pub header-law : Law.HeaderLaw
 header-law = record { reads = tuple-lawful; fits = header-fits; bit0 = header-bit; bits = header-bits }
+
+pub no-object-is-code : (Y : Layout) → Adjacent Y → Law.NoObjectIsCode Y
+no-object-is-code Y near s n i l =
+    let h = shaped s (fails-test (shape-decides s) n) in
+    let b = address-below Y near s h i l in
+    ⊎-elim
+    (λ (c : isCode (address Y i) ≡ true). let p = code-parts (address Y i) c .1 in absurd (omega arith))
+    (λ (c : isCode (address Y i) ≡ false). c)
+    (by-test (isCode (address Y i)))
 
 -- ---- calls
 

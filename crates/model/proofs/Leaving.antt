@@ -1,5 +1,6 @@
 -- What a session call leaves: a property that a state has, and that each change which a call can make
--- keeps, holds of what any call leaves. One walk through the calls for every such property.
+-- keeps, holds of what any call leaves. The property may be another for each call. One walk through the calls for
+-- every such property.
 use Prim.Native.Nat.{ℕ, _≤_, _<_}
 use mathlib.Core.Path.{_≡_, refl}
 use mathlib.Core.Bool.{Bool, true, false, not}
@@ -27,7 +28,7 @@ use Rattle.model.specs.Objects.{fieldIndex, index, kind, fieldCount, nam
 use Rattle.model.specs.Sessions.{step, machine}
 use Rattle.model.specs.Shape.{badShape}
 use Rattle.model.specs.Soundness.{sound}
-use Rattle.model.specs.Values.{isOdd, isNull, inRange, tag}
+use Rattle.model.specs.Values.{isOdd, isNull, isCode, inRange, tag}
 use Rattle.model.specs.Words.{State, at}
 use Rattle.model.proofs.Objects.{kind-same}
 use Rattle.model.proofs.Tests.{cond-holds, or-none, never}
@@ -39,24 +40,27 @@ pub record HasField (Y : Layout) (s : State) (k : Kind) (r f : ℕ) : Type 0 whe
   pub kind-is : kind Y (s .heap) (index Y (rootWord s r)) ≡ k
   pub below : f < fieldCount Y (s .heap) (index Y (rootWord s r))
 
--- the changes that leave the record, each with what the call has tested before it
-pub record Written (Y : Layout) (s : State) (P : State → Type 0) : Type 0 where
-  pub integer : (r : ℕ) (v : ℤ) → inRange v ≡ true → P (withRoot s r (tag v))
-  pub null : (r : ℕ) → P (withRoot s r 0)
-  pub copied : (from to : ℕ) → from < length (s .roots) → P (withRoot s to (rootWord s from))
+-- the changes that leave the record, each with its call and what that has tested before
+pub record Written (Y : Layout) (s : State) (P : Call → State → Type 0) : Type 0 where
+  pub integer : (r : ℕ) (v : ℤ) → inRange v ≡ true → P (Ask.SetInteger r v) (withRoot s r (tag v))
+  pub null : (r : ℕ) → P (Ask.SetNull r) (withRoot s r 0)
+  pub code : (r w : ℕ) → isCode w ≡ true → P (Ask.SetCode r w) (withRoot s r w)
+  pub copied : (from to : ℕ) → from < length (s .roots) → P (Ask.Copy from to) (withRoot s to (rootWord s from))
   pub loaded : (r f to : ℕ) → HasField Y s Traced r f
-      → P (withRoot s to (at (s .heap) (fieldIndex (index Y (rootWord s r)) f)))
+      → P (Ask.Load r f to) (withRoot s to (at (s .heap) (fieldIndex (index Y (rootWord s r)) f)))
   pub stored : (r f from : ℕ) → HasField Y s Traced r f → from < length (s .roots)
-      → P (withWord s (fieldIndex (index Y (rootWord s r)) f) (rootWord s from))
-  pub written : (r f x : ℕ) → HasField Y s Untraced r f → P (withWord s (fieldIndex (index Y (rootWord s r)) f) x)
+      → P (Ask.Store r f from) (withWord s (fieldIndex (index Y (rootWord s r)) f) (rootWord s from))
+  pub written : (r f x : ℕ) → HasField Y s Untraced r f
+      → P (Ask.RawWrite r f x) (withWord s (fieldIndex (index Y (rootWord s r)) f) x)
 
 -- and those that do not
-pub record Kept (Y : Layout) (s : State) (P : State → Type 0) : Type 0 where
+pub record Kept (Y : Layout) (s : State) (P : Call → State → Type 0) : Type 0 where
   pub words : Written Y s P
-  pub placedNow : (k : Kind) (n r : ℕ) → badShape s ≡ false → n ≤ maxFields → fits n s ≡ true → P (placed Y k n r s)
-  pub collectedNow : sound Y s ≡ true → P (collected Y s)
+  pub placedNow : (k : Kind) (n r : ℕ) → badShape s ≡ false → n ≤ maxFields → fits n s ≡ true
+      → P (Ask.Allocate k n r) (placed Y k n r s)
+  pub collectedNow : (c : Call) → sound Y s ≡ true → P c (collected Y s)
   pub placedThen : (k : Kind) (n r : ℕ) → sound Y s ≡ true → n ≤ maxFields → fits n (collected Y s) ≡ true
-      → P (placed Y k n r (collected Y s))
+      → P (Ask.Allocate k n r) (placed Y k n r (collected Y s))
 
 data Leaves (P : State → Type 0) : Outcome State → Type 0 where
   leaves : {o : Outcome State} → P (o .left) → Leaves P o
@@ -70,11 +74,11 @@ refuse-leaves : (P : State → Type 0) (b : Bool) (k : Refusal) (s : State) (o :
 unfolding refuse
 refuse-leaves P b k s o p f = cond-holds (Leaves P) b _ o (λ e. leaves p) f
 
+legal-root : (s : State) (r : ℕ) → noRoot s r ≡ false → r < length (s .roots)
+legal-root s r e = leb-false (length (s .roots)) r e
+
 -- of a state that has the property: a call that refuses leaves it
 module _ (Y : Layout) (s : State) (P : State → Type 0) (p : P s) where
-  legal-root : (r : ℕ) → noRoot s r ≡ false → r < length (s .roots)
-  legal-root r e = leb-false (length (s .roots)) r e
-
   -- a test that refuses and changes nothing
   after : (b : Bool) (k : Refusal) (o : Outcome State) → (b ≡ false → Leaves P o) → Leaves P (refuse b k s o)
   after b k o f = refuse-leaves P b k s o p f
@@ -105,57 +109,69 @@ module _ (Y : Layout) (s : State) (P : State → Type 0) (p : P s) where
       on-roots (r ∷ []) _ (λ a b.
       cond-holds (Leaves P) (isOdd (rootWord s r)) _ _ (λ c. leaves p) (λ c.
       cond-holds (Leaves P) (isNull (rootWord s r)) _ _ (λ d. leaves p) (λ d.
-      after _ Why.Object _ (λ e. leaves p))))
+      cond-holds (Leaves P) (isCode (rootWord s r)) _ _ (λ e. leaves p) (λ e.
+      after _ Why.Object _ (λ f. leaves p)))))
 
-  written-leaves : Written Y s P → (c : Call) → changesRecord c ≡ false → Leaves P (step Y c s)
-  unfolding step Calls.check Calls.setInteger Calls.setNull Calls.copy Calls.load Calls.store Calls.rawRead Calls.rawWrite
-      Calls.same
+-- what may depend on the call as well
+module _ (Y : Layout) (s : State) (P : Call → State → Type 0) (p : (c : Call) → P c s) where
+  written-leaves : Written Y s P → (c : Call) → changesRecord c ≡ false → Leaves (P c) (step Y c s)
+  unfolding step Calls.check Calls.setInteger Calls.setNull Calls.setCode Calls.copy Calls.load Calls.store Calls.rawRead
+      Calls.rawWrite Calls.same
   written-leaves h Ask.Collect e = never refl e
   written-leaves h (Ask.Allocate k n r) e = never refl e
-  written-leaves h Ask.Check e = on-roots [] _ (λ a b. leaves p)
+  written-leaves h Ask.Check e = on-roots Y s _ (p _) [] _ (λ a b. leaves (p Ask.Check))
   written-leaves h (Ask.SetInteger r v) e =
-      on-roots (r ∷ []) _ (λ a b. after _ Why.Range _ (λ c. leaves (h .integer r v (not-false (inRange v) c))))
-  written-leaves h (Ask.SetNull r) e = on-roots (r ∷ []) _ (λ a b. leaves (h .null r))
+      on-roots Y s _ (p _) (r ∷ []) _ (λ a b.
+      after Y s _ (p _) _ Why.Range _ (λ c. leaves (h .integer r v (not-false (inRange v) c))))
+  written-leaves h (Ask.SetNull r) e = on-roots Y s _ (p _) (r ∷ []) _ (λ a b. leaves (h .null r))
+  written-leaves h (Ask.SetCode r w) e =
+      on-roots Y s _ (p _) (r ∷ []) _ (λ a b.
+      after Y s _ (p _) _ Why.Range _ (λ c. leaves (h .code r w (not-false (isCode w) c))))
   written-leaves h (Ask.Copy from to) e =
-      on-roots (from ∷ to ∷ []) _
-      (λ a b. leaves (h .copied from to (legal-root from (or-none (noRoot s from) (noRoot s to) b .0))))
+      on-roots Y s _ (p _) (from ∷ to ∷ []) _
+      (λ a b. leaves (h .copied from to (legal-root s from (or-none (noRoot s from) (noRoot s to) b .0))))
   written-leaves h (Ask.Load r f to) e =
-      on-roots (r ∷ to ∷ []) _ (λ a b.
-      on-field Traced r f _ (legal-root r (or-none (noRoot s r) (noRoot s to) b .0)) (λ g. leaves (h .loaded r f to g)))
+      on-roots Y s _ (p _) (r ∷ to ∷ []) _ (λ a b.
+      on-field Y s _ (p _) Traced r f _ (legal-root s r (or-none (noRoot s r) (noRoot s to) b .0)) (λ g. leaves (h .loaded r f to g)))
   written-leaves h (Ask.Store r f from) e =
-      on-roots (r ∷ from ∷ []) _ (λ a b.
+      on-roots Y s _ (p _) (r ∷ from ∷ []) _ (λ a b.
       let c = or-none (noRoot s r) (noRoot s from) b in
-      on-field Traced r f _ (legal-root r (c .0)) (λ g. leaves (h .stored r f from g (legal-root from (c .1)))))
+      on-field Y s _ (p _) Traced r f _ (legal-root s r (c .0)) (λ g. leaves (h .stored r f from g (legal-root s from (c .1)))))
   written-leaves h (Ask.RawRead r f) e =
-      on-roots (r ∷ []) _ (λ a b. on-field Untraced r f _ (legal-root r b) (λ g. leaves p))
+      on-roots Y s _ (p _) (r ∷ []) _ (λ a b.
+      on-field Y s _ (p _) Untraced r f _ (legal-root s r b) (λ g. leaves (p (Ask.RawRead r f))))
   written-leaves h (Ask.RawWrite r f x) e =
-      on-roots (r ∷ []) _ (λ a b. on-field Untraced r f _ (legal-root r b) (λ g. leaves (h .written r f x g)))
-  written-leaves h (Ask.Same r q) e = on-roots (r ∷ q ∷ []) _ (λ a b. leaves p)
-  written-leaves h (Ask.Inspect r) e = inspect-leaves r
+      on-roots Y s _ (p _) (r ∷ []) _ (λ a b.
+      on-field Y s _ (p _) Untraced r f _ (legal-root s r b) (λ g. leaves (h .written r f x g)))
+  written-leaves h (Ask.Same r q) e = on-roots Y s _ (p _) (r ∷ q ∷ []) _ (λ a b. leaves (p (Ask.Same r q)))
+  written-leaves h (Ask.Inspect r) e = inspect-leaves Y s _ (p _) r
 
-  collect-leaves : Kept Y s P → Leaves P (Calls.collect Y s)
+  collect-leaves : Kept Y s P → Leaves (P Ask.Collect) (Calls.collect Y s)
   unfolding Calls.collect
-  collect-leaves h = on-roots [] _ (λ a b. after _ Why.Damaged _ (λ c. leaves (h .collectedNow (not-false (sound Y s) c))))
+  collect-leaves h =
+      on-roots Y s _ (p _) [] _ (λ a b.
+      after Y s _ (p _) _ Why.Damaged _ (λ c. leaves (h .collectedNow Ask.Collect (not-false (sound Y s) c))))
 
-  allocate-leaves : Kept Y s P → (k : Kind) (n r : ℕ) → Leaves P (Calls.allocate Y k n r s)
+  allocate-leaves : Kept Y s P → (k : Kind) (n r : ℕ) → Leaves (P (Ask.Allocate k n r)) (Calls.allocate Y k n r s)
   unfolding Calls.allocate
   allocate-leaves h k n r =
-      on-roots (r ∷ []) _ (λ a b. after _ Why.Count _ (λ c.
+      on-roots Y s _ (p _) (r ∷ []) _ (λ a b. after Y s _ (p _) _ Why.Count _ (λ c.
       let small : n ≤ maxFields = ltb-false maxFields n c in
-      cond-holds (Leaves P) (fits n s) _ _
+      cond-holds (Leaves (P (Ask.Allocate k n r))) (fits n s) _ _
       (λ d. leaves (h .placedNow k n r a small d))
-      (λ d. after _ Why.Damaged _ (λ e.
+      (λ d. after Y s _ (p _) _ Why.Damaged _ (λ e.
       let good = not-false (sound Y s) e in
-      refuse-leaves P _ Why.Room (collected Y s) _ (h .collectedNow good) (λ f.
+      refuse-leaves (P (Ask.Allocate k n r)) _ Why.Room (collected Y s) _ (h .collectedNow (Ask.Allocate k n r) good) (λ f.
       leaves (h .placedThen k n r good small (not-false (fits n (collected Y s)) f)))))))
 
-  step-leaves : Kept Y s P → (c : Call) → Leaves P (step Y c s)
+  step-leaves : Kept Y s P → (c : Call) → Leaves (P c) (step Y c s)
   unfolding step
   step-leaves h Ask.Collect = collect-leaves h
   step-leaves h (Ask.Allocate k n r) = allocate-leaves h k n r
   step-leaves h Ask.Check = written-leaves (h .words) Ask.Check refl
   step-leaves h (Ask.SetInteger r v) = written-leaves (h .words) (Ask.SetInteger r v) refl
   step-leaves h (Ask.SetNull r) = written-leaves (h .words) (Ask.SetNull r) refl
+  step-leaves h (Ask.SetCode r w) = written-leaves (h .words) (Ask.SetCode r w) refl
   step-leaves h (Ask.Copy p q) = written-leaves (h .words) (Ask.Copy p q) refl
   step-leaves h (Ask.Load r f q) = written-leaves (h .words) (Ask.Load r f q) refl
   step-leaves h (Ask.Store r f q) = written-leaves (h .words) (Ask.Store r f q) refl
@@ -164,7 +180,7 @@ module _ (Y : Layout) (s : State) (P : State → Type 0) (p : P s) where
   step-leaves h (Ask.Same p q) = written-leaves (h .words) (Ask.Same p q) refl
   step-leaves h (Ask.Inspect r) = written-leaves (h .words) (Ask.Inspect r) refl
 
-  pub step-left : Kept Y s P → (c : Call) → P (step Y c s .left)
+  pub step-left : Kept Y s P → (c : Call) → P c (step Y c s .left)
   step-left h c = what-left (step Y c s) (step-leaves h c)
 
 -- ---- what some calls leave alone
@@ -172,10 +188,11 @@ module _ (Y : Layout) (s : State) (P : State → Type 0) (p : P s) where
 pub record-stays : (Y : Layout) → RecordStays (machine Y)
 record-stays Y c s e =
     what-left (step Y c s)
-    (written-leaves Y s (λ t. t .«record» ≡ s .«record») refl
+    (written-leaves Y s (λ c t. t .«record» ≡ s .«record») (λ c. refl)
     (record {
       integer = λ r v l. refl;
       null = λ r. refl;
+      code = λ r w c. refl;
       copied = λ from to l. refl;
       loaded = λ r f to g. refl;
       stored = λ r f from g l. refl;

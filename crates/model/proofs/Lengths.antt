@@ -38,16 +38,17 @@ module _ (Y : Layout) (s : State) where
       (length-sets (t .heap) (free t) (Y .header k n ∷ replicate n 0) ∙ e .0, length-set (t .roots) r (address Y (free t)) ∙ e .1)
 
   pub step-lengths : (c : Call) → SameLengths s (step Y c s .left)
-  step-lengths = step-left Y s (SameLengths s) (refl, refl) (record {
+  step-lengths = step-left Y s (λ c t. SameLengths s t) (λ c. (refl, refl)) (record {
     words = record {
       integer = λ r v e. root-same r (tag v);
       null = λ r. root-same r 0;
+      code = λ r w e. root-same r w;
       copied = λ from to l. root-same to (rootWord s from);
       loaded = λ r f to g. root-same to (at (s .heap) (fieldIndex (index Y (rootWord s r)) f));
       stored = λ r f from g l. word-same (fieldIndex (index Y (rootWord s r)) f) (rootWord s from);
       written = λ r f x g. word-same (fieldIndex (index Y (rootWord s r)) f) x;
     };
     placedNow = λ k n r a l e. placed-same s k n r (refl, refl);
-    collectedNow = collected-same;
+    collectedNow = λ c. collected-same;
     placedThen = λ k n r e l f. placed-same (collected Y s) k n r (collected-same e);
   })

@@ -9,6 +9,7 @@ pub mod Lists
 pub mod Same
 -- words, headers, answers
 pub mod Integers
+pub mod WordSorts
 pub mod Headers
 pub mod PlainAnswers
 pub mod Refusing
@@ -79,3 +80,4 @@ pub mod Demand3
 pub mod Rivals
 pub mod RivalsOfEffects
 pub mod RivalsOfLooks
+pub mod RivalsOfCode

@@ -32,7 +32,7 @@ use Rattle.model.specs.Objects.{address, index, kind, fieldCount, fieldI
 use Rattle.model.specs.Sessions.{step, machine}
 use Rattle.model.specs.Shape.{badShapeOf, badShape}
 use Rattle.model.specs.Soundness.{headers}
-use Rattle.model.specs.Values.{isOdd, isNull, tag}
+use Rattle.model.specs.Values.{isOdd, isNull, isCode, tag}
 use Rattle.model.specs.Window.{window, shown}
 use Rattle.model.specs.Words.{State, stateOf, withHeap, at, free}
 use Rattle.model.proofs.Collected.{new-roots}
@@ -119,14 +119,16 @@ module _ (Y : Layout) (s : State) (H : List ℕ) (len : length H ≡ length (s .
         (g .fields f (omega (arith, w .fields, ap (λ z. fieldCount Y (s .heap) z) (w .object)))))
 
   sees : (c : Call) → L.Agrees Y s H (L.sight c) → Alike (step Y c t) (step Y c s)
-  unfolding step Calls.collect Calls.check Calls.allocate Calls.setInteger Calls.setNull Calls.copy Calls.load Calls.store
-      Calls.rawRead Calls.rawWrite Calls.same Calls.inspect
+  unfolding step Calls.collect Calls.check Calls.allocate Calls.setInteger Calls.setNull Calls.setCode Calls.copy Calls.load
+      Calls.store Calls.rawRead Calls.rawWrite Calls.same Calls.inspect
   sees Ask.Collect g = rw g but-heap
   sees Ask.Check g = rw g but-heap
   sees (Ask.Allocate k n r) g = rw g but-heap
   sees (Ask.SetInteger r v) g =
       roots-alike (r ∷ []) _ _ (refuse-alike _ _ Why.Range _ _ refl (λ e. but-heap))
   sees (Ask.SetNull r) g = roots-alike (r ∷ []) _ _ but-heap
+  sees (Ask.SetCode r w) g =
+      roots-alike (r ∷ []) _ _ (refuse-alike _ _ Why.Range _ _ refl (λ e. but-heap))
   sees (Ask.Copy from to) g = roots-alike (from ∷ to ∷ []) _ _ but-heap
   sees (Ask.Same r q) g = roots-alike (r ∷ q ∷ []) _ _ but-heap
   sees (Ask.Load r f to) g =
@@ -143,56 +145,62 @@ module _ (Y : Layout) (s : State) (H : List ℕ) (len : length H ≡ length (s .
       roots-alike (r ∷ []) _ _
       (choose-alike (isOdd (rootWord s r)) _ _ _ _ but-heap
       (choose-alike (isNull (rootWord s r)) _ _ _ _ but-heap
+      (choose-alike (isCode (rootWord s r)) _ _ _ _ but-heap
       (refuse-alike _ _ Why.Object _ _ (ap not (same-names r g)) (λ e.
-      record { answer = rw (same-kind r g, same-count r g); roots = refl; «record» = refl }))))
+      record { answer = rw (same-kind r g, same-count r g); roots = refl; «record» = refl })))))
 
 -- ---- where a root's word comes from
 
 module _ (Y : Layout) (s : State) (h : SoundTests Y s) where
-  abbrev From : State → Type 0
-  From t = (q : ℕ) → q < length (s .roots) → L.Origin Y s (rootWord t q)
+  -- the words of some roots, after a call
+  abbrev Come : Call → List ℕ → Type 0
+  Come c R = (q : ℕ) → q < length (s .roots) → L.Origin Y s c (at R q)
 
-  old : From s
-  old q l = L.oldRoot q l
+  old : (c : Call) → Come c (s .roots)
+  old c q l = L.oldRoot q l
 
-  set-from : (R : List ℕ) (r w : ℕ) → length R ≡ length (s .roots)
-      → ((q : ℕ) → q < length (s .roots) → L.Origin Y s (at R q))
-      → L.Origin Y s w → (q : ℕ) → q < length (s .roots) → L.Origin Y s (at (set R r w) q)
-  set-from R r w e f o q l =
+  set-from : {c : Call} (R : List ℕ) (r w : ℕ) → length R ≡ length (s .roots) → Come c R → L.Origin Y s c w
+      → Come c (set R r w)
+  set-from {c} R r w e f o q l =
       ⊎-elim
       (λ (z : q ≡ r).
-      subst (λ x. L.Origin Y s (at (set R r w) x)) (sym z)
-      (subst (L.Origin Y s) (sym (getD-set-same R r w 0 (omega arith))) o))
-      (λ (n : q ≡ r → ⊥). subst (L.Origin Y s) (sym (getD-set-other R r q w 0 n)) (f q l))
+      subst (λ x. L.Origin Y s c (at (set R r w) x)) (sym z)
+      (subst (L.Origin Y s c) (sym (getD-set-same R r w 0 (omega arith))) o))
+      (λ (n : q ≡ r → ⊥). subst (L.Origin Y s c) (sym (getD-set-other R r q w 0 n)) (f q l))
       (same? q r)
 
-  collected-from : From (collected Y s)
-  collected-from q l = L.renamed q (rootWord (collected Y s) q) l (collects Y s h .root q l)
+  -- a root is set to a word
+  set-root : {c : Call} (r w : ℕ) → L.Origin Y s c w → Come c (set (s .roots) r w)
+  set-root {c} r w o = set-from (s .roots) r w refl (old c) o
 
-  placed-from : (k : Kind) (n r : ℕ) → From (placed Y k n r s)
+  collected-from : (c : Call) → Come c (collected Y s .roots)
+  collected-from c q l = L.renamed q (rootWord (collected Y s) q) l (collects Y s h .root q l)
+
+  placed-from : (k : Kind) (n r : ℕ) → Come (Ask.Allocate k n r) (placed Y k n r s .roots)
   unfolding placed
-  placed-from k n r = set-from (s .roots) r (address Y (free s)) refl old L.placed
+  placed-from k n r = set-root r (address Y (free s)) L.placed
 
-  placed-then : (k : Kind) (n r : ℕ) → From (placed Y k n r (collected Y s))
+  placed-then : (k : Kind) (n r : ℕ) → Come (Ask.Allocate k n r) (placed Y k n r (collected Y s) .roots)
   unfolding placed
   placed-then k n r =
-      set-from (collected Y s .roots) r (address Y (free (collected Y s))) (new-roots Y s h) collected-from L.placedThen
+      set-from (collected Y s .roots) r (address Y (free (collected Y s))) (new-roots Y s h) (collected-from _) L.placedThen
 
-  enters : (c : Call) → From (step Y c s .left)
-  enters = step-left Y s From old (record {
+  enters : (c : Call) → Come c (step Y c s .left .roots)
+  enters = step-left Y s (λ c t. Come c (t .roots)) old (record {
     words = record {
-      integer = λ r v e. set-from (s .roots) r (tag v) refl old (L.integer v e);
-      null = λ r. set-from (s .roots) r 0 refl old L.null;
-      copied = λ from to l. set-from (s .roots) to (rootWord s from) refl old (L.oldRoot from l);
+      integer = λ r v e. set-root r (tag v) (L.integer r v refl e);
+      null = λ r. set-root r 0 (L.null r refl);
+      code = λ r w e. set-root r w (L.code r w refl e);
+      copied = λ from to l. set-root to (rootWord s from) (L.oldRoot from l);
       loaded = λ r f to g.
-          set-from (s .roots) to (at (s .heap) (fieldIndex (index Y (rootWord s r)) f)) refl old
+          set-root to (at (s .heap) (fieldIndex (index Y (rootWord s r)) f))
           (L.field (index Y (rootWord s r)) f (in-mem (index Y (rootWord s r)) (headers Y s)
           (is-header Y s h Traced r f g)) (g .kind-is) (g .below));
-      stored = λ r f from g l. old;
-      written = λ r f x g. old;
+      stored = λ r f from g l. old _;
+      written = λ r f x g. old _;
     };
     placedNow = λ k n r a l e. placed-from k n r;
-    collectedNow = λ e. collected-from;
+    collectedNow = λ c e. collected-from c;
     placedThen = λ k n r e l f. placed-then k n r;
   })
 

@@ -19,13 +19,14 @@ use Rattle.model.proofs.Objects.{kind-traced, kind-untraced}
 use Rattle.model.proofs.Same.{same-state, same-record}
 use Rattle.model.proofs.Tests.{by-test, decide}
 use Rattle.model.proofs.Tiling.{headers-cover}
+use Rattle.model.proofs.WordSorts.{became-stays}
 
 module _ (Y : Layout) (s : State) where
   became-same : (w a b : ℕ) → D.Became Y s w a → D.Became Y s w b → a ≡ b
   became-same w a b x y =
       ⊎-elim
       (λ (p : isAddress w ≡ true). x .moves p ∙ sym (y .moves p))
-      (λ (p : isAddress w ≡ false). x .stays p ∙ sym (y .stays p))
+      (λ (p : isAddress w ≡ false). became-stays Y s w a x p ∙ sym (became-stays Y s w b y p))
       (by-test (isAddress w))
 
   module _ (t t′ : State) (L L′ : ℕ) (c : D.Collects Y s t L) (c′ : D.Collects Y s t′ L′) where

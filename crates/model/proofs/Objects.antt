@@ -11,9 +11,11 @@ use Rattle.model.specs.declared.Kind.the-variants.{Traced, Untraced}
 use borrow.Author.Tests.{not-true}
 use Rattle.model.specs.Calls.{isOfKind}
 use Rattle.model.specs.Collection.{fieldCell, cells}
-use Rattle.model.specs.Headers.{Layout}
+use Rattle.model.specs.Headers.{Layout, Adjacent}
+use Rattle.model.specs.Limits.{codeFloor}
 use Rattle.model.specs.Objects.{isTraced, address, index, kind, fieldCount, size, fieldWords}
-use Rattle.model.specs.Words.{at}
+use Rattle.model.specs.Words.{State, at}
+use Rattle.model.proofs.Shape.{Shaped}
 use Rattle.model.proofs.Tests.{never}
 
 pub kind-traced : (k : Kind) → isTraced k ≡ true → k ≡ Traced
@@ -31,6 +33,10 @@ kind-same Untraced j e = kind-untraced j (not-true (isTraced j) e)
 module _ (Y : Layout) where
   pub index-address : (i : ℕ) → index Y (address Y i) ≡ i
   index-address i = omega arith
+
+  -- the largest address of any heap lies below the floor of code words
+  pub address-below : Adjacent Y → (s : State) → Shaped s → (i : ℕ) → i < length (s .heap) → address Y i < codeFloor
+  address-below near s h i l = omega (arith, h .odd, h .small)
 
   -- the words of an object that lies within the heap
   pub cells-length : (H : List ℕ) (i : ℕ) → i + size Y H i ≤ length H → length (cells Y H i) ≡ size Y H i

@@ -27,11 +27,11 @@ use Rattle.model.specs.Refusals as Row
 use Rattle.model.specs.Sessions.{Machine, step, machine}
 use Rattle.model.specs.Shape.{badLength}
 use Rattle.model.specs.Soundness.{sound}
-use Rattle.model.specs.Values.{isOdd, isNull}
+use Rattle.model.specs.Values.{isOdd, isNull, isCode}
 use Rattle.model.specs.Words.{State, at, free}
 use Rattle.model.proofs.CallsPass.{fails-test}
 use Rattle.model.proofs.Conditions.{value-decides}
-use Rattle.model.proofs.Deciding.{length-decides, other-address, names-decides, sound-decides}
+use Rattle.model.proofs.Deciding.{length-decides, names-decides, sound-decides}
 use Rattle.model.proofs.Demand1.{demand1}
 use Rattle.model.proofs.Demand2.{demand2}
 use Rattle.model.proofs.Effects.{effects}
@@ -39,6 +39,7 @@ use Rattle.model.proofs.Judged.{Left, unchanged, recollected, Judged, b
 use Rattle.model.proofs.NoChoice.{no-choice}
 use Rattle.model.proofs.Same.{same-record, same-state, same-outcome}
 use Rattle.model.proofs.Tests.{by-test, decide, same?}
+use Rattle.model.proofs.WordSorts.{code-parts, other-address}
 
 -- ---- each change leaves one state
 
@@ -147,9 +148,15 @@ module _ (Y : Layout) where
         let e = eqb-true w 0 b in
         say _ (x .inspectNull r s p e) (y .inspectNull r s p e))
         (λ (b : isNull w ≡ false).
-        let t = not-false (names Y s w) (fails-test (value-decides Y s r (other-address w a b)) (p .1 .1 .0)) in
+        ⊎-elim
+        (λ (d : isCode w ≡ true).
+        let e = code-parts w d in
+        say _ (x .inspectCode r s p (e .0) (e .1)) (y .inspectCode r s p (e .0) (e .1)))
+        (λ (d : isCode w ≡ false).
+        let t = not-false (names Y s w) (fails-test (value-decides Y s r (other-address w a b d)) (p .1 .1 .0)) in
         let e = names-decides Y s w .holds t in
         say _ (x .inspectObject r s p e) (y .inspectObject r s p e))
+        (by-test (isCode w)))
         (by-test (isNull w)))
         (by-test (isOdd w))
 
@@ -193,6 +200,8 @@ module _ (Y : Layout) where
         both-done _ _ _ (one-root s r _) (m .effects .setInteger r v s p) (n .effects .setInteger r v s p)
     passed-same (Ask.SetNull r) s p =
         both-done _ _ _ (one-root s r _) (m .effects .setNull r s p) (n .effects .setNull r s p)
+    passed-same (Ask.SetCode r w) s p =
+        both-done _ _ _ (one-root s r _) (m .effects .setCode r w s p) (n .effects .setCode r w s p)
     passed-same (Ask.Copy from to) s p =
         both-done _ _ _ (one-root s to _) (m .effects .copy from to s p) (n .effects .copy from to s p)
     passed-same (Ask.Load r f to) s p =

@@ -11,7 +11,7 @@ use Rattle.model.specs.declared.Refusal.the-variants as Why
 use Rattle.model.specs.declared.Answer.{Answer}
 use Rattle.model.specs.declared.Answer.the-variants as Says
 use Rattle.model.specs.Answers.{number, told}
-use Rattle.model.specs.Graph.{Plain, integer, null}
+use Rattle.model.specs.Graph.{Plain, integer, null, code}
 use Rattle.model.specs.GraphCalls.{plainAnswer}
 use Rattle.model.proofs.Tests.{cond-holds, never}
 
@@ -58,3 +58,4 @@ object-plainly Untraced n = plainly (Says.Object Untraced n) refl
 pub plain-plainly : (p : Plain) → Plainly (plainAnswer p)
 plain-plainly (integer v) = plainly (Says.Integer v) refl
 plain-plainly null = plainly Says.Null refl
+plain-plainly (code w) = plainly (Says.Code w) refl

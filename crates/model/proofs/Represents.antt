@@ -6,35 +6,38 @@ use mathlib.Core.Logic.{⊎-elim}
 use mathlib.Core.Bool.{Bool, true, false}
 use mathlib.Core.List.{List}
 use lib.ListN.{length, getD, List·getD-eq-default}
-use borrow.Author.Tests.{eq-eqb, ne-eqb}
+use borrow.Author.Tests.{eqb-false, ne-eqb}
 use Rattle.model.specs.declared.Refusal.{Refusal}
 use Rattle.model.specs.declared.Refusal.the-variants as Why
 use Rattle.model.specs.Answers.{Outcome, refuse}
 use Rattle.model.specs.Admission.{noRoots, onRoots}
 use Rattle.model.specs.Demand3 as D3
-use Rattle.model.specs.Graph.{Plain, integer, null, Value, plain, object, Object, traced, Graph, nth, rootValue}
+use Rattle.model.specs.Graph.{Plain, integer, null, code, Value, plain, object, Object, traced, Graph, nth, rootValue}
 use Rattle.model.specs.GraphCalls.{onGraphRoots}
 use Rattle.model.specs.Changes.{rootWord}
-use Rattle.model.specs.Headers.{Layout}
+use Rattle.model.specs.Headers.{Layout, Adjacent}
+use Rattle.model.specs.Limits.{codeFloor}
 use Rattle.model.specs.Represents.{plainWord, hasWord, Encodes, Holds, Represents}
 use Rattle.model.specs.Objects.{address, index, names}
 use Rattle.model.specs.Shape.{badShape}
 use Rattle.model.specs.Soundness.{headers, isValue}
-use Rattle.model.specs.Values.{isOdd, isNull, isAddress}
+use Rattle.model.specs.Values.{isOdd, isNull, isAddress, isCode}
 use Rattle.model.specs.Words.{State, at}
 use Rattle.model.proofs.Deciding.{names-true, sound-tests}
 use Rattle.model.proofs.Integers.{tag-no-address}
 use Rattle.model.proofs.Keeping.{tile}
 use Rattle.model.proofs.Members.{In}
-use Rattle.model.proofs.Objects.{index-address}
+use Rattle.model.proofs.Objects.{index-address, address-below}
 use Rattle.model.proofs.Shape.{unshaped, first-in}
 use Rattle.model.proofs.Soundness.{SoundTests}
 use Rattle.model.proofs.Tests.{never, decide}
 use Rattle.model.proofs.Values.{address-value, plain-value}
+use Rattle.model.proofs.WordSorts.{parts-address, code-no-address, address-no-code}
 
 pub plain-no-address : (p : Plain) → hasWord p ≡ true → isAddress (plainWord p) ≡ false
 plain-no-address (integer v) h = tag-no-address v h
 plain-no-address null h = refl
+plain-no-address (code w) h = code-no-address w h
 
 plain-object : (p : Plain) (x : ℕ) → plain p ≡ object x → ⊥
 plain-object p x e = let z : _≡_ {A = ℕ} 0 1 = cc in omega arith
@@ -95,23 +98,35 @@ module _ (Y : Layout) where
     pub header-not-odd : isOdd (address Y i) ≡ false
     header-not-odd = ne-eqb (address Y i % 2) 1 (λ e. omega arith)
 
-    pub header-is-address : isAddress (address Y i) ≡ true
-    header-is-address = rw (eq-eqb (address Y i % 2) 0 (omega arith), header-not-null)
+    -- in a layout whose addresses lie below the floor
+    module _ (near : Adjacent Y) where
+      header-below : address Y i < codeFloor
+      header-below =
+          let b = first-in s (h .shape) in
+          address-below Y near s (h .shape) i (omega (arith, tile Y s h i m .within, h .shape .high))
 
-    pub header-names : names Y s (address Y i) ≡ true
-    header-names =
-        let t = tile Y s h i m in
-        let b = first-in s (h .shape) in
-        let e : index Y (address Y i) ≡ i = index-address Y i in
-        names-true Y s (address Y i) (record {
-          even = omega arith;
-          notNull = λ z. omega (arith, t .from);
-          multiple = omega arith;
-          inHalf = rw e (t .from);
-          belowFree = rw e (omega (arith, t .within));
-          clear = rw e (t .clear);
-          ends = rw e (t .within);
-        })
+      pub header-is-address : isAddress (address Y i) ≡ true
+      header-is-address =
+          parts-address (address Y i) (omega arith) (eqb-false (address Y i) 0 header-not-null) header-below
+
+      pub header-no-code : isCode (address Y i) ≡ false
+      header-no-code = address-no-code (address Y i) header-is-address
+
+      pub header-names : names Y s (address Y i) ≡ true
+      header-names =
+          let t = tile Y s h i m in
+          let b = first-in s (h .shape) in
+          let e : index Y (address Y i) ≡ i = index-address Y i in
+          names-true Y s (address Y i) (record {
+            even = omega arith;
+            notNull = λ z. omega (arith, t .from);
+            belowFloor = header-below;
+            multiple = omega arith;
+            inHalf = rw e (t .from);
+            belowFree = rw e (omega (arith, t .within));
+            clear = rw e (t .clear);
+            ends = rw e (t .within);
+          })
 
   -- what is reachable in the graph is kept, and is one of its objects
   module _ (s : State) (g : Graph) (m : Represents Y s g) where

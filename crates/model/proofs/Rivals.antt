@@ -51,6 +51,8 @@ pub data Sort : Type 0 where
   checks : Sort
   compares : Sort
   loads : Sort
+  setsCode : Sort
+  inspects : Sort
   others : Sort
 
 abbrev pub sort : Call → Sort
@@ -65,14 +67,17 @@ sort (Ask.Copy from to) = others
 sort (Ask.Store r f from) = others
 sort (Ask.RawRead r f) = others
 sort (Ask.RawWrite r f x) = others
-sort (Ask.Inspect r) = others
+sort (Ask.SetCode r w) = setsCode
+sort (Ask.Inspect r) = inspects
 
 abbrev number : Sort → ℕ
 number collects = 0
 number checks = 1
 number compares = 2
 number loads = 3
-number others = 4
+number setsCode = 4
+number inspects = 5
+number others = 6
 
 abbrev pub is : Sort → Call → Bool
 is k c = eqb (number (sort c)) (number k)
@@ -229,6 +234,7 @@ pretends (Ask.Allocate k n r) s o = cond (fits n s) o (says (Says.Refused Why.Ro
 pretends Ask.Check s o = o
 pretends (Ask.SetInteger r v) s o = o
 pretends (Ask.SetNull r) s o = o
+pretends (Ask.SetCode r w) s o = o
 pretends (Ask.Copy from to) s o = o
 pretends (Ask.Load r f to) s o = o
 pretends (Ask.Store r f from) s o = o

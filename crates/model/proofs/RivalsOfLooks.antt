@@ -35,6 +35,7 @@ use Rattle.model.proofs.PlainAnswers.{no-yes}
 use Rattle.model.proofs.Rivals.{changed, is, checks, compares, loads}
 use Rattle.model.proofs.RivalsOfEffects.{word0}
 use Rattle.model.proofs.Tests.{by-test, never}
+use Rattle.model.proofs.WordSorts.{became-stays}
 
 -- ---- same looks at a heap word
 
@@ -47,62 +48,75 @@ blank3 = Worked.state A 1 (replicate 3 0) (0 ∷ [])
 pub same-by-word-1-breaks-sees : L.Looks tuple sameByWord1 → ⊥
 same-by-word-1-breaks-sees l = no-yes (l .sees (Ask.Same 0 0) blank3 (0 ∷ 5 ∷ 0 ∷ []) refl tt .answer)
 
--- ---- load takes a raw word for a value: root 0 names an untraced object, whose one word is 6
+-- ---- load takes a raw word for a value: root 0 names an untraced object, whose one word is x
 
-abbrev raw6 : State
-raw6 = Worked.state A 3 (0 ∷ 0x80000002 ∷ 6 ∷ 0 ∷ 0 ∷ []) (4 ∷ [])
+abbrev raw : ℕ → State
+raw x = Worked.state A 3 (0 ∷ 0x80000002 ∷ x ∷ 0 ∷ 0 ∷ []) (4 ∷ [])
 
 -- KIND becomes "done", and root 0 the first raw word of the object that it names
 abbrev pub loadsRaw : Machine
 loadsRaw = changed (λ c s o. cond (is loads c && eqb (told (o .answer) .refusal) (number Why.Kind))
     (says Says.Done (withRoot s 0 (at (s .heap) (fieldIndex (index tuple (rootWord s 0)) 0)))) o)
 
-raw6-sound : Sound tuple raw6
+raw-sound : (x : ℕ) → Sound tuple (raw x)
 unfolding tuple sound badShapeOf tiles headersFrom isValue fieldsAreValues mem
-raw6-sound = sound-decides tuple raw6 .holds refl
+raw-sound x = sound-decides tuple (raw x) .holds refl
 
--- no origin has the word 6: all are odd or multiples of 4
+-- no word that a load brings in is x, if that is neither a multiple of 4 nor odd
 abbrev Fit : ℕ → Type 0
 Fit w = (w % 2 ≡ 1) ⊎ (w % 4 ≡ 0)
 
 traced-no : Untraced ≡ Traced → ⊥
 traced-no e = never refl (ap isTraced (sym e))
 
-headers-are : headers tuple raw6 ≡ 1 ∷ []
+headers-are : (x : ℕ) → headers tuple (raw x) ≡ 1 ∷ []
 unfolding tuple headersFrom
-headers-are = refl
+headers-are x = refl
 
-kind-is : kind tuple (raw6 .heap) 1 ≡ Untraced
+kind-is : (x : ℕ) → kind tuple (raw x .heap) 1 ≡ Untraced
 unfolding tuple
-kind-is = refl
+kind-is x = refl
 
 address-fits : (i : ℕ) → Fit (address tuple i)
 address-fits i = inr (omega arith)
 
-root-fits : (r : ℕ) → r < 1 → Fit (rootWord raw6 r)
-root-fits zero l = inr refl
-root-fits (suc r) l = absurd (omega arith)
+root-fits : (x r : ℕ) → r < 1 → Fit (rootWord (raw x) r)
+root-fits x zero l = inr refl
+root-fits x (suc r) l = absurd (omega arith)
 
-fit : (w : ℕ) → L.Origin tuple raw6 w → Fit w
-fit w (L.oldRoot r l) = root-fits r l
-fit w (L.renamed r v l b) =
+-- a load sets no root to a code word
+load-no-code : (to w : ℕ) → Ask.Load 0 0 0 ≡ Ask.SetCode to w → ⊥
+load-no-code to w e = never (ap (is loads) (sym e)) refl
+
+fit : (x w : ℕ) → L.Origin tuple (raw x) (Ask.Load 0 0 0) w → Fit w
+fit x w (L.oldRoot r l) = root-fits x r l
+fit x w (L.renamed r v l b) =
     ⊎-elim
-    (λ (p : isAddress (rootWord raw6 r) ≡ true). rw (b .moves p) (address-fits (D.copyIndex tuple raw6 (index tuple (rootWord raw6 r)))))
-    (λ (p : isAddress (rootWord raw6 r) ≡ false). rw (b .stays p) (root-fits r l))
-    (by-test (isAddress (rootWord raw6 r)))
-fit w (L.field i f m k l) =
-    let e : i ≡ 1 = List·Memᴰ·eq-of-singleton (rw headers-are at m) in
-    absurd (traced-no (sym kind-is ∙ ap (λ j. kind tuple (raw6 .heap) j) (sym e) ∙ k))
-fit w (L.integer v e) = inl (tag-odd v e)
-fit w L.null = inr refl
-fit w L.placed = address-fits (free raw6)
-fit w L.placedThen = address-fits (free (collected tuple raw6))
+    (λ (p : isAddress (rootWord (raw x) r) ≡ true).
+    rw (b .moves p) (address-fits (D.copyIndex tuple (raw x) (index tuple (rootWord (raw x) r)))))
+    (λ (p : isAddress (rootWord (raw x) r) ≡ false).
+    rw (became-stays tuple (raw x) (rootWord (raw x) r) w b p) (root-fits x r l))
+    (by-test (isAddress (rootWord (raw x) r)))
+fit x w (L.field i f m k l) =
+    let e : i ≡ 1 = List·Memᴰ·eq-of-singleton (rw (headers-are x) at m) in
+    absurd (traced-no (sym (kind-is x) ∙ ap (λ j. kind tuple (raw x .heap) j) (sym e) ∙ k))
+fit x w (L.integer to v c e) = inl (tag-odd v e)
+fit x w (L.null to c) = inr refl
+fit x w (L.code to v c e) = absurd (load-no-code to v c)
+fit x w L.placed = address-fits (free (raw x))
+fit x w L.placedThen = address-fits (free (collected tuple (raw x)))
 
-pub loads-raw-breaks-enters : L.Looks tuple loadsRaw → ⊥
+loads-raw : (x : ℕ) → (Fit x → ⊥) → L.Looks tuple loadsRaw → ⊥
 unfolding tuple step refuse Calls.load badShapeOf names
-loads-raw-breaks-enters l =
-    ⊎-elim (λ (e : 6 % 2 ≡ 1). omega arith) (λ (e : 6 % 4 ≡ 0). omega arith)
-    (fit 6 (l .enters (Ask.Load 0 0 0) raw6 0 raw6-sound (omega arith)))
+loads-raw x n l = n (fit x x (l .enters (Ask.Load 0 0 0) (raw x) 0 (raw-sound x) (omega arith)))
+
+-- whatever the word looks like: an address, or a code word
+pub loads-raw-breaks-enters : L.Looks tuple loadsRaw → ⊥
+loads-raw-breaks-enters = loads-raw 6 (λ z. ⊎-elim (λ (e : 6 % 2 ≡ 1). omega arith) (λ (e : 6 % 4 ≡ 0). omega arith) z)
+
+pub loads-raw-code-breaks-enters : L.Looks tuple loadsRaw → ⊥
+loads-raw-code-breaks-enters =
+    loads-raw 16777218 (λ z. ⊎-elim (λ (e : 16777218 % 2 ≡ 1). omega arith) (λ (e : 16777218 % 4 ≡ 0). omega arith) z)
 
 -- ---- a check that answers "done" to one unsound heap and "not sound" to another
 

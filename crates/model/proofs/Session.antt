@@ -18,7 +18,7 @@ use Rattle.model.specs.Answers.{number}
 use Rattle.model.specs.Demand3 as D3
 use Rattle.model.specs.Graph.{Graph}
 use Rattle.model.specs.GraphCalls.{graphStep, graphAnswers, graphAfter}
-use Rattle.model.specs.Headers.{Layout, WritesBoth}
+use Rattle.model.specs.Headers.{Layout, WritesBoth, Adjacent}
 use Rattle.model.specs.Sessions.{step, machine, answers, after}
 use Rattle.model.specs.Words.{State, halfWordsOf, halfWords}
 use Rattle.model.proofs.CallAllocate.{allocate-room, Full, allocate-agrees}
@@ -30,7 +30,7 @@ use Rattle.model.proofs.GraphLeaving.{ofGraph}
 use Rattle.model.proofs.Lengths.{step-lengths}
 use Rattle.model.specs.Represents.{Represents}
 use Rattle.model.proofs.Represents.{parts, Agrees}
-use Rattle.model.proofs.CallsOnRoots.{check-agrees, setInteger-agrees, setNull-agrees, copy-agrees, same-agrees}
+use Rattle.model.proofs.CallsOnRoots.{check-agrees, setInteger-agrees, setNull-agrees, setCode-agrees, copy-agrees, same-agrees}
 use Rattle.model.proofs.CallsOnRoots.{inspect-agrees}
 use Rattle.model.proofs.Tests.{by-test, never}
 
@@ -60,25 +60,27 @@ is-no-room Says.Null e = never e refl
 is-no-room (Says.Integer v) e = never e refl
 is-no-room (Says.Object Traced n) e = never e refl
 is-no-room (Says.Object Untraced n) e = never e refl
+is-no-room (Says.Code w) e = never e refl
 is-no-room (Says.Number w) e = never e refl
 is-no-room (Says.Refused k) e = ap Says.Refused (refusal-room k e)
 
-module _ (Y : Layout) (law : WritesBoth Y) where
+module _ (Y : Layout) (law : WritesBoth Y) (near : Adjacent Y) where
   -- every call: "no room", or heap and graph agree
   pub step-goes : (c : Call) (s : State) (g : Graph) → Represents Y s g
       → Full Y c s g (step Y c s) ⊎ Agrees Y (step Y c s) (graphStep c g)
-  step-goes Ask.Collect s g m = inr (collect-agrees Y s g m)
+  step-goes Ask.Collect s g m = inr (collect-agrees Y near s g m)
   step-goes Ask.Check s g m = inr (check-agrees Y s g m)
-  step-goes (Ask.Allocate k n r) s g m = allocate-agrees Y law k n r s g m
+  step-goes (Ask.Allocate k n r) s g m = allocate-agrees Y law near k n r s g m
   step-goes (Ask.SetInteger r v) s g m = inr (setInteger-agrees Y r v s g m)
   step-goes (Ask.SetNull r) s g m = inr (setNull-agrees Y r s g m)
+  step-goes (Ask.SetCode r w) s g m = inr (setCode-agrees Y r w s g m)
   step-goes (Ask.Copy p q) s g m = inr (copy-agrees Y p q s g m)
-  step-goes (Ask.Load r f q) s g m = inr (load-agrees Y r f q s g m)
-  step-goes (Ask.Store r f q) s g m = inr (store-agrees Y r f q s g m)
-  step-goes (Ask.RawRead r f) s g m = inr (rawRead-agrees Y r f s g m)
-  step-goes (Ask.RawWrite r f n) s g m = inr (rawWrite-agrees Y r f n s g m)
-  step-goes (Ask.Same p q) s g m = inr (same-agrees Y p q s g m)
-  step-goes (Ask.Inspect r) s g m = inr (inspect-agrees Y r s g m)
+  step-goes (Ask.Load r f q) s g m = inr (load-agrees Y near r f q s g m)
+  step-goes (Ask.Store r f q) s g m = inr (store-agrees Y near r f q s g m)
+  step-goes (Ask.RawRead r f) s g m = inr (rawRead-agrees Y near r f s g m)
+  step-goes (Ask.RawWrite r f n) s g m = inr (rawWrite-agrees Y near r f n s g m)
+  step-goes (Ask.Same p q) s g m = inr (same-agrees Y near p q s g m)
+  step-goes (Ask.Inspect r) s g m = inr (inspect-agrees Y near r s g m)
 
   -- a call that is not answered "no room" agrees with the graph
   pub step-agrees : (c : Call) (s : State) (g : Graph) → Represents Y s g → (step Y c s .answer ≡ D3.noRoom → ⊥)
@@ -96,7 +98,7 @@ module _ (Y : Layout) (law : WritesBoth Y) where
       (ap (λ z. step Y z s⁺ .answer) (sym (u .is)) ∙ e) in
       ap (λ z. step Y z s .answer) (u .is)
       ∙ allocate-room Y (u .kind) (u .fields) (u .to) s (parts m) (omega (arith, u .named, m .count, m⁺ .count)) (u .small) .1
-      (omega (arith, live-same Y s g m, live-same Y s⁺ g m⁺)))
+      (omega (arith, live-same Y near s g m, live-same Y near s⁺ g m⁺)))
       (λ (a : Agrees Y (step Y c s⁺) (graphStep c g)). absurd (graph-room c g (sym (a .0) ∙ e)))
       (step-goes c s⁺ g m⁺)
 

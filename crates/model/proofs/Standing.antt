@@ -13,12 +13,12 @@ use Rattle.model.specs.declared.Kind.the-variants.{Traced, Untraced}
 use Rattle.model.specs.Conditions as C
 use Rattle.model.specs.Demand3 as D3
 use Rattle.model.specs.Discovery.{mem}
-use Rattle.model.specs.Graph.{integer, null, Value, plain, object, Object, traced, untraced, Graph}
-use Rattle.model.specs.Headers.{Layout}
+use Rattle.model.specs.Graph.{integer, null, code, Value, plain, object, Object, traced, untraced, Graph}
+use Rattle.model.specs.Headers.{Layout, Adjacent}
 use Rattle.model.specs.Objects.{address, index, kind, fieldCount, size, fieldWords}
 use Rattle.model.specs.Represents.{Encodes, Holds, Represents}
 use Rattle.model.specs.Soundness.{tiles, headersFrom, headers}
-use Rattle.model.specs.Values.{isNull, isAddress, untag}
+use Rattle.model.specs.Values.{isNull, isAddress, isCode, untag}
 use Rattle.model.specs.Words.{State, at, firstWord, free}
 use Rattle.model.proofs.Deciding.{headers-valid, tests-sound}
 use Rattle.model.proofs.GraphWords.{below, in-below, below-in}
@@ -32,6 +32,7 @@ use Rattle.model.proofs.Represents.{header-is-address}
 use Rattle.model.proofs.Soundness.{SoundTests}
 use Rattle.model.proofs.Tests.{by-test}
 use Rattle.model.proofs.Tiling.{tiles-step, headers-more, headers-end, headers-tile}
+use Rattle.model.proofs.WordSorts.{parts-code, code-no-address}
 
 module _ (Y : Layout) where
   -- no header of a tiling stands twice
@@ -53,7 +54,7 @@ module _ (Y : Layout) where
       (λ (l : ltb i e ≡ false). rw (headers-end Y H e n i l) tt)
       (by-test (ltb i e))
 
-  module _ (s : State) (h : SoundTests Y s) (words : D3.OfWords s) where
+  module _ (near : Adjacent Y) (s : State) (h : SoundTests Y s) (words : D3.OfWords s) where
     abbrev hs : List ℕ
     hs = headers Y s
 
@@ -65,7 +66,8 @@ module _ (Y : Layout) where
 
     unfoldable pub valueOf : ℕ → Value
     valueOf w =
-        cond (isAddress w) (object (place (index Y w) hs)) (cond (isNull w) (plain null) (plain (integer (untag w))))
+        cond (isAddress w) (object (place (index Y w) hs))
+        (cond (isNull w) (plain null) (cond (isCode w) (plain (code w)) (plain (integer (untag w)))))
 
     abbrev objectOf : Kind → List ℕ → Object
     objectOf Traced ws = traced (map valueOf ws)
@@ -84,10 +86,13 @@ module _ (Y : Layout) where
         let z = integer-law .held w l o in
         rw (ne-eqb (w % 2) 0 (λ e. omega arith), ne-eqb w 0 (λ e. omega arith)) (z .0, sym (z .1))
     encodes w l (C.null e) = rw e (refl, refl)
+    encodes w l (C.code e f) =
+        let c = parts-code w e f in
+        rw (code-no-address w c, ne-eqb w 0 (λ z. omega arith), c) (c, refl)
     encodes w l (C.header i m e) =
         let n = mem-in i hs m in
         let p = place-at i hs n in
-        rw (e, header-is-address Y s h i n, index-address Y i)
+        rw (e, header-is-address Y s h i n near, index-address Y i)
         (in-below (place i hs) (length hs) (p .0), ap (address Y) (sym (p .1)))
 
     field-encodes : (i f : ℕ) → In i hs → kind Y (s .heap) i ≡ Traced → f < fieldCount Y (s .heap) i

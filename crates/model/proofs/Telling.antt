@@ -26,7 +26,7 @@ use Rattle.model.specs.Laws as Law
 use Rattle.model.specs.Sessions.{step, machine}
 use Rattle.model.specs.Shape.{badLength}
 use Rattle.model.specs.Soundness.{sound}
-use Rattle.model.specs.Values.{isOdd, isNull}
+use Rattle.model.specs.Values.{isOdd, isNull, isCode}
 use Rattle.model.specs.Window.{shown, windowWord}
 use Rattle.model.specs.Words.{State, at}
 use Rattle.model.proofs.PlainAnswers.{no-zero}
@@ -46,6 +46,7 @@ own Ask.Check t = cond (eqb (t .value) 1) Says.Sound Says.Unsound
 own (Ask.Allocate k n r) t = Says.Done
 own (Ask.SetInteger r v) t = Says.Done
 own (Ask.SetNull r) t = Says.Done
+own (Ask.SetCode r w) t = Says.Done
 own (Ask.Copy from to) t = Says.Done
 own (Ask.Load r f to) t = Says.Done
 own (Ask.Store r f from) t = Says.Done
@@ -54,7 +55,8 @@ own (Ask.RawWrite r f x) t = Says.Done
 own (Ask.Same r q) t = cond (eqb (t .value) 1) Says.Yes Says.No
 own (Ask.Inspect r) t =
     cond (eqb (t .holds) 0) Says.Null (cond (eqb (t .holds) 1) (Says.Integer (t .integer))
-    (Says.Object (cond (eqb (t .holds) 2) Traced Untraced) (t .value)))
+    (cond (eqb (t .holds) 4) (Says.Code (t .value))
+    (Says.Object (cond (eqb (t .holds) 2) Traced Untraced) (t .value))))
 
 abbrev pub heard : Call → Told → Answer
 heard c t = cond (eqb (t .refusal) 0) (own c t) (Says.Refused (refusalOf (t .refusal)))
@@ -67,6 +69,7 @@ plain-heard Ask.Check n t = refl
 plain-heard (Ask.Allocate k m r) n t = refl
 plain-heard (Ask.SetInteger r v) n t = refl
 plain-heard (Ask.SetNull r) n t = refl
+plain-heard (Ask.SetCode r w) n t = refl
 plain-heard (Ask.Copy from to) n t = refl
 plain-heard (Ask.Load r f to) n t = refl
 plain-heard (Ask.Store r f from) n t = refl
@@ -117,8 +120,8 @@ module _ (Y : Layout) (s : State) where
   either c b x y e f = back (cond-holds (λ a. heard c (told a) ≡ a) b x y (λ t. e) (λ t. f))
 
   step-back : (c : Call) → Back c (step Y c s)
-  unfolding step Calls.collect Calls.check Calls.allocate Calls.setInteger Calls.setNull Calls.copy Calls.load Calls.store
-      Calls.rawRead Calls.rawWrite Calls.same Calls.inspect
+  unfolding step Calls.collect Calls.check Calls.allocate Calls.setInteger Calls.setNull Calls.setCode Calls.copy Calls.load
+      Calls.store Calls.rawRead Calls.rawWrite Calls.same Calls.inspect
   step-back Ask.Collect = on-roots Ask.Collect [] _ (refuse-back Ask.Collect _ Why.Damaged s _ (back refl))
   step-back Ask.Check = on-roots Ask.Check [] _ (either Ask.Check (sound Y s) Says.Sound Says.Unsound refl refl)
   step-back (Ask.Allocate k n r) =
@@ -129,6 +132,8 @@ module _ (Y : Layout) (s : State) where
   step-back (Ask.SetInteger r v) =
       on-roots (Ask.SetInteger r v) (r ∷ []) _ (refuse-back (Ask.SetInteger r v) _ Why.Range s _ (back refl))
   step-back (Ask.SetNull r) = on-roots (Ask.SetNull r) (r ∷ []) _ (back refl)
+  step-back (Ask.SetCode r w) =
+      on-roots (Ask.SetCode r w) (r ∷ []) _ (refuse-back (Ask.SetCode r w) _ Why.Range s _ (back refl))
   step-back (Ask.Copy from to) = on-roots (Ask.Copy from to) (from ∷ to ∷ []) _ (back refl)
   step-back (Ask.Load r f to) =
       on-roots (Ask.Load r f to) (r ∷ to ∷ []) _ (on-field (Ask.Load r f to) Traced r f _ (back refl))
@@ -145,7 +150,8 @@ module _ (Y : Layout) (s : State) where
       on-roots (Ask.Inspect r) (r ∷ []) _
       (cond-holds (Back (Ask.Inspect r)) (isOdd (rootWord s r)) _ _ (λ e. back refl) (λ e.
       cond-holds (Back (Ask.Inspect r)) (isNull (rootWord s r)) _ _ (λ f. back refl) (λ f.
-      refuse-back (Ask.Inspect r) _ Why.Object s _ (back (object-back r _ _)))))
+      cond-holds (Back (Ask.Inspect r)) (isCode (rootWord s r)) _ _ (λ g. back refl) (λ g.
+      refuse-back (Ask.Inspect r) _ Why.Object s _ (back (object-back r _ _))))))
 
   pub read-back : (c : Call) → heard c (told (step Y c s .answer)) ≡ step Y c s .answer
   read-back c = go (step Y c s) (step-back c)

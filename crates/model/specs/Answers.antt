@@ -58,5 +58,6 @@ told Says.Null = tells 0 0 0
 told (Says.Integer v) = tellsInteger v
 told (Says.Object Traced n) = tells 0 2 n
 told (Says.Object Untraced n) = tells 0 3 n
+told (Says.Code w) = tells 0 4 w
 told (Says.Number w) = tells 0 0 w
 told (Says.Refused k) = tells (number k) 0 0

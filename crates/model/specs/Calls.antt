@@ -1,4 +1,4 @@
--- The calls, each with its refusals in their order. Document 01, "The calls" and "Refusals and their order".
+-- The calls, each with its refusals in their order. Document 01, "The calls" and "Refusals and their order"; document 02, Q-1.
 -- SHAPE and ROOT come first in each but fresh, by `onRoots` of Admission. The session of the calls is in Sessions, the window
 -- in Window.
 use Prim.Native.Nat.{ℕ}
@@ -15,7 +15,7 @@ use Rattle.model.specs.declared.Refusal.the-variants as Why
 use Rattle.model.specs.declared.Answer.the-variants as Says
 use Rattle.model.specs.Limits.{maxFields}
 use Rattle.model.specs.Words.{State, withHeap, withRecord, at}
-use Rattle.model.specs.Values.{isOdd, isNull, inRange, tag, untag}
+use Rattle.model.specs.Values.{isOdd, isNull, isCode, inRange, tag, untag}
 use Rattle.model.specs.Headers.{Layout}
 use Rattle.model.specs.Shape.{badLength}
 use Rattle.model.specs.Objects.{isTraced, index, kind, fieldCount, fieldIndex, names}
@@ -47,6 +47,13 @@ unfoldable pub setNull : ℕ → State → Outcome State
 setNull to s =
     onRoots (to ∷ []) s
     (says Says.Done (withRoot s to 0))
+
+-- RANGE where the word is odd or below the floor
+unfoldable pub setCode : ℕ → ℕ → State → Outcome State
+setCode to word s =
+    onRoots (to ∷ []) s
+    (refuse (not (isCode word)) Why.Range s
+    (says Says.Done (withRoot s to word)))
 
 unfoldable pub copy : ℕ → ℕ → State → Outcome State
 copy from to s =
@@ -127,5 +134,6 @@ module _ (Y : Layout) where
       onRoots (root ∷ []) s
       (cond (isOdd w) (says (Says.Integer (untag w)) s)
       (cond (isNull w) (says Says.Null s)
+      (cond (isCode w) (says (Says.Code w) s)
       (refuse (not (names Y s w)) Why.Object s
-      (says (Says.Object (kind Y (s .heap) (index Y w)) (fieldCount Y (s .heap) (index Y w))) s))))
+      (says (Says.Object (kind Y (s .heap) (index Y w)) (fieldCount Y (s .heap) (index Y w))) s)))))

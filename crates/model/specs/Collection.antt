@@ -38,7 +38,7 @@ module _ (Y : Layout) where
   abbrev pub cells : List ℕ → ℕ → List Cell
   cells H i = still (at H i) ∷ map (fieldCell (kind Y H i)) (fieldWords Y H i)
 
-  -- the object that a word leads to: none where it is odd or 0
+  -- the object that a word leads to: none where it is odd, 0 or a code word
   unfoldable pub wordLeads : ℕ → Option ℕ
   wordLeads w = cond (isAddress w) (some (index Y w)) none
 

@@ -1,12 +1,13 @@
 -- Document 01's conditions as types, apart from the tests that the definitions compute: when SHAPE applies, when a word names an
--- object, when a heap is sound. "Values and objects", and the row SHAPE of the table. `TestsDecide` says that the tests decide them.
+-- object, when a heap is sound. "Values and objects", and the row SHAPE of the table; for code words document 02's Q-1.
+-- `TestsDecide` says that the tests decide them.
 use Prim.Native.Nat.{ℕ, _+_, _%_, _≤_, _<_}
 use mathlib.Core.Path.{_≡_}
 use mathlib.Core.Bool.{Bool, true, false}
 use mathlib.Core.List.{List, [], _∷_, List·Memᴰ}
 use lib.ListN.{length}
 use Rattle.model.specs.declared.Kind.the-variants.{Traced}
-use Rattle.model.specs.Limits.{maxWords, maxRoots}
+use Rattle.model.specs.Limits.{maxWords, maxRoots, codeFloor}
 use Rattle.model.specs.Words.{State, at, halfWords, firstWord, otherFirst, free}
 use Rattle.model.specs.Headers.{Layout}
 use Rattle.model.specs.Shape.{badLength, badShape}
@@ -30,9 +31,10 @@ pub data BadShape (s : State) : Type 0 where
 module _ (Y : Layout) where
   -- a word names an object when it is
   pub record Names (s : State) (w : ℕ) : Type 0 where
-    -- even, not 0, a multiple of 4,
+    -- even, not 0, below the floor, a multiple of 4,
     pub even : w % 2 ≡ 0
     pub notNull : w ≡ 0 → ⊥
+    pub belowFloor : w < codeFloor
     pub multiple : w % 4 ≡ 0
     -- its index lies in the current half below the free index,
     pub inHalf : firstWord s ≤ index Y w
@@ -47,10 +49,11 @@ module _ (Y : Layout) where
     done : Tiling H e e []
     object : (i : ℕ) (hs : List ℕ) → i < e → Y .isHeader (at H i) ≡ true → Tiling H e (i + size Y H i) hs → Tiling H e i (i ∷ hs)
 
-  -- odd, 0, or the address of a header of that tiling
+  -- odd, 0, a code word, or the address of a header of that tiling
   pub data Valid (hs : List ℕ) (w : ℕ) : Type 0 where
     odd : w % 2 ≡ 1 → Valid hs w
     null : w ≡ 0 → Valid hs w
+    code : w % 2 ≡ 0 → codeFloor ≤ w → Valid hs w
     header : (i : ℕ) → List·Memᴰ i hs → w ≡ address Y i → Valid hs w
 
   -- a heap is sound when
@@ -66,7 +69,7 @@ module _ (Y : Layout) where
     -- objects with bit 0 clear tile the used part exactly;
     pub headers : List ℕ
     pub tiled : Tiling (s .heap) (free s) (firstWord s) headers
-    -- each root and each field of a traced object is odd, 0, or the address of a header of that tiling
+    -- each root and each field of a traced object is odd, 0, a code word, or the address of a header of that tiling
     pub roots : (r : ℕ) → r < length (s .roots) → Valid headers (rootWord s r)
     pub fields : (i f : ℕ) → List·Memᴰ i headers → kind Y (s .heap) i ≡ Traced → f < fieldCount Y (s .heap) i
         → Valid headers (at (s .heap) (fieldIndex i f))

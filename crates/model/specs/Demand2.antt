@@ -3,14 +3,14 @@
 use Prim.Native.Nat.{ℕ, suc, _+_, _≤_, _<_}
 use mathlib.Core.Path.{_≡_}
 use mathlib.Core.Logic.{_⊎_}
-use mathlib.Core.Bool.{true, false}
+use mathlib.Core.Bool.{true}
 use mathlib.Core.List.{List, [], _∷_, _++_, map, List·Memᴰ}
 use lib.ListN.{length, getD, take}
 use Rattle.model.specs.declared.Kind.the-variants.{Traced, Untraced}
 use Rattle.model.specs.declared.Answer.the-variants as Says
 use Rattle.model.specs.declared.Call.the-variants as Ask
 use Rattle.model.specs.Words.{State, at, other, firstWord, otherFirst, free}
-use Rattle.model.specs.Values.{isAddress}
+use Rattle.model.specs.Values.{isOdd, isNull, isAddress, isCode}
 use Rattle.model.specs.Headers.{Layout}
 use Rattle.model.specs.Objects.{address, index, kind, fieldCount, size, fieldIndex}
 use Rattle.model.specs.Discovery.{visits, packed, wordsBefore}
@@ -51,9 +51,11 @@ module _ (Y : Layout) where
   abbrev pub copyIndex : State → ℕ → ℕ
   copyIndex s i = otherFirst s + wordsBefore (cells Y (s .heap)) (order Y s) i
 
-  -- a word and what it became: integers and null stay, an object's address is its copy's
+  -- a word and what it became: integers, null and code words stay, an object's address is its copy's
   pub record Became (s : State) (w w′ : ℕ) : Type 0 where
-    pub stays : isAddress w ≡ false → w′ ≡ w
+    pub integer : isOdd w ≡ true → w′ ≡ w
+    pub null : isNull w ≡ true → w′ ≡ w
+    pub code : isCode w ≡ true → w′ ≡ w
     pub moves : isAddress w ≡ true → w′ ≡ address Y (copyIndex s (index Y w))
 
   -- a state, and what its collection leaves with the answer L

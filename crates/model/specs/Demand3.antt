@@ -72,6 +72,7 @@ needed Ask.Collect = none
 needed Ask.Check = none
 needed (Ask.SetInteger _ _) = none
 needed (Ask.SetNull _) = none
+needed (Ask.SetCode _ _) = none
 needed (Ask.Copy _ _) = none
 needed (Ask.Load _ _ _) = none
 needed (Ask.Store _ _ _) = none

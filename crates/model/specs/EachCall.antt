@@ -40,6 +40,7 @@ single =
     -- set, copy and same look at no heap word, and 14 need name no object
     ∷ one (junk 1 (14 ∷ 12 ∷ [])) (Ask.SetInteger 1 (negsuc 4)) done (junk 1 (14 ∷ 0xfffffff7 ∷ []))
     ∷ one (junk 1 (14 ∷ 12 ∷ [])) (Ask.SetNull 1) done (junk 1 (14 ∷ 0 ∷ []))
+    ∷ one (junk 1 (14 ∷ 12 ∷ [])) (Ask.SetCode 1 16_777_218) done (junk 1 (14 ∷ 16_777_218 ∷ []))
     ∷ one (junk 1 (14 ∷ 12 ∷ [])) (Ask.Copy 0 1) done (junk 1 (14 ∷ 14 ∷ []))
     ∷ unchanged (junk 1 (14 ∷ 14 ∷ 12 ∷ [])) (Ask.Same 0 1 ∷ Ask.Same 1 2 ∷ []) (gives 1 ∷ gives 0 ∷ [])
     -- null and the integer 0 are not the same
@@ -100,12 +101,13 @@ ordered =
 abbrev pub lowest : List Case
 lowest =
     -- ROOT, before OBJECT: there is one root, and it is null
-    unchanged oneNull (rootCalls 1) (replicate 14 (refused 2))
+    unchanged oneNull (rootCalls 1) (replicate 15 (refused 2))
     -- SHAPE before ROOT
-    ∷ unchanged (state A 0 blank []) (rootCalls 0) (replicate 14 (refused 1))
+    ∷ unchanged (state A 0 blank []) (rootCalls 0) (replicate 15 (refused 1))
     -- ROOT before COUNT and before RANGE
-    ∷ unchanged oneNull (Ask.Allocate Traced 1_073_741_824 1 ∷ Ask.SetInteger 1 (pos 1_073_741_824) ∷ [])
-    (refused 2 ∷ refused 2 ∷ [])
+    ∷ unchanged oneNull
+    (Ask.Allocate Traced 1_073_741_824 1 ∷ Ask.SetInteger 1 (pos 1_073_741_824) ∷ Ask.SetCode 1 16_777_217 ∷ [])
+    (replicate 3 (refused 2))
     -- COUNT before DAMAGED, and DAMAGED before ROOM
     ∷ unchanged (junk 9 (0 ∷ [])) (map (λ n. Ask.Allocate Traced n 0) (1_073_741_824 ∷ 1_073_741_823 ∷ []))
     (refused 3 ∷ refused 8 ∷ [])

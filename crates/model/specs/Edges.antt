@@ -55,6 +55,10 @@ edges =
     ∷ pair (map (λ n. refusal (Ask.Allocate Traced n 0)) aroundMost) (9 ∷ 9 ∷ 3 ∷ [])
     ∷ pair (map (λ n. tuple .countOf (tuple .header Traced n)) counts) counts
     ∷ pair (map (λ n. tuple .countOf (tuple .header Untraced n)) counts) counts
+    -- code words: RANGE below the floor, and for odd words above it
+    ∷ pair (map (λ w. refusal (Ask.SetCode 0 w)) (16_777_214 ∷ 16_777_215 ∷ 16_777_216 ∷ 16_777_217 ∷ 16_777_218 ∷ []))
+    (4 ∷ 4 ∷ 0 ∷ 4 ∷ 0 ∷ [])
+    ∷ pair (map (λ w. refusal (Ask.SetCode 0 w)) (0 ∷ 4_294_967_294 ∷ 4_294_967_295 ∷ [])) (4 ∷ 0 ∷ 4 ∷ [])
     -- the heap's length: even, below 3, above 2,097,153
     ∷ pair (map (λ n. shape (badLength n)) (1 ∷ 2 ∷ 3 ∷ 4 ∷ 5 ∷ [])) (1 ∷ 1 ∷ 0 ∷ 1 ∷ 0 ∷ [])
     ∷ pair (map (λ n. shape (badLength n)) (2_097_151 ∷ 2_097_152 ∷ 2_097_153 ∷ 2_097_154 ∷ 2_097_155 ∷ []))

@@ -1,5 +1,6 @@
--- What each call does where nothing refuses it: a field a sentence of document 01's "The calls", of any machine. What a refused call
--- leaves is demand 1's, what collect leaves demand 2's. The three together leave no machine a choice: `Pinned`.
+-- What each call does where nothing refuses it: a field a sentence of document 01's "The calls" or of document 02's Q-1, of any
+-- machine. What a refused call leaves is demand 1's, what collect leaves demand 2's. The three together leave no machine a choice:
+-- `Pinned`.
 use Prim.Native.Nat.{ℕ, _+_, _%_, _≤_, _<_}
 use mathlib.Core.Path.{_≡_}
 use mathlib.Core.Logic.{_⊎_, _↔_}
@@ -10,6 +11,7 @@ use Rattle.model.specs.declared.Kind.{Kind}
 use Rattle.model.specs.declared.Answer.the-variants as Says
 use Rattle.model.specs.declared.Call.{Call}
 use Rattle.model.specs.declared.Call.the-variants as Ask
+use Rattle.model.specs.Limits.{codeFloor}
 use Rattle.model.specs.Words.{State, at, free}
 use Rattle.model.specs.Values.{tag, untag}
 use Rattle.model.specs.Headers.{Layout}
@@ -92,10 +94,12 @@ module _ (Y : Layout) where
         → Done (M .step (Ask.Allocate kind fields to) s) (NewObject Y kind fields to s)
     pub allocateThen : (kind : Kind) (fields to : ℕ) (s : State) → Passes (Ask.Allocate kind fields to) s → CalledFor fields s
         → Done (M .step (Ask.Allocate kind fields to) s) (NewObject Y kind fields to (collected Y s))
-    -- set root to an integer; set root to null; copy root to root
+    -- set root to an integer; set root to null; set root to a code word; copy root to root
     pub setInteger : (to : ℕ) (value : ℤ) (s : State) → Passes (Ask.SetInteger to value) s
         → Done (M .step (Ask.SetInteger to value) s) (RootChanged s to (tag value))
     pub setNull : (to : ℕ) (s : State) → Passes (Ask.SetNull to) s → Done (M .step (Ask.SetNull to) s) (RootChanged s to 0)
+    pub setCode : (to word : ℕ) (s : State) → Passes (Ask.SetCode to word) s
+        → Done (M .step (Ask.SetCode to word) s) (RootChanged s to word)
     pub copy : (from to : ℕ) (s : State) → Passes (Ask.Copy from to) s
         → Done (M .step (Ask.Copy from to) s) (RootChanged s to (rootWord s from))
     -- load: field of a traced object into a root; store: a root's word into a field of a traced object
@@ -116,11 +120,13 @@ module _ (Y : Layout) where
     pub sameNo : (one other : ℕ) (s : State) → Passes (Ask.Same one other) s
         → (M .step (Ask.Same one other) s .answer ≡ Says.No) ↔ (rootWord s one ≡ rootWord s other → ⊥)
     pub sameLeaves : (one other : ℕ) (s : State) → Passes (Ask.Same one other) s → Leaves (M .step (Ask.Same one other) s) s
-    -- inspect: a root holds null, an integer with its value, or an object, traced or untraced, with its field count
+    -- inspect: a root holds null, an integer with its value, a code word, or an object, traced or untraced, with its field count
     pub inspectNull : (root : ℕ) (s : State) → Passes (Ask.Inspect root) s → rootWord s root ≡ 0
         → M .step (Ask.Inspect root) s .answer ≡ Says.Null
     pub inspectInteger : (root : ℕ) (s : State) → Passes (Ask.Inspect root) s → rootWord s root % 2 ≡ 1
         → M .step (Ask.Inspect root) s .answer ≡ Says.Integer (untag (rootWord s root))
+    pub inspectCode : (root : ℕ) (s : State) → Passes (Ask.Inspect root) s → rootWord s root % 2 ≡ 0 → codeFloor ≤ rootWord s root
+        → M .step (Ask.Inspect root) s .answer ≡ Says.Code (rootWord s root)
     pub inspectObject : (root : ℕ) (s : State) → Passes (Ask.Inspect root) s → Names Y s (rootWord s root)
         → M .step (Ask.Inspect root) s .answer
         ≡ Says.Object (kind Y (s .heap) (index Y (rootWord s root))) (fieldCount Y (s .heap) (index Y (rootWord s root)))

@@ -11,6 +11,7 @@ use Rattle.model.specs.Discovery.{packed, found}
 pub data Plain : Type 0 where
   integer : ℤ → Plain
   null : Plain
+  code : ℕ → Plain
 
 pub data Value : Type 0 where
   plain : Plain → Value

@@ -13,10 +13,10 @@ use Rattle.model.specs.declared.Answer.the-variants as Says
 use Rattle.model.specs.declared.Call.{Call}
 use Rattle.model.specs.declared.Call.the-variants as Ask
 use Rattle.model.specs.Limits.{maxFields}
-use Rattle.model.specs.Values.{inRange}
+use Rattle.model.specs.Values.{isCode, inRange}
 use Rattle.model.specs.Answers.{Outcome, says, refuse}
 use Rattle.model.specs.Admission.{noRoots}
-use Rattle.model.specs.Graph.{Plain, integer, null, Value, plain, object, Object, traced, untraced, Graph, nth, rootValue, graphLive}
+use Rattle.model.specs.Graph.{Plain, integer, null, code, Value, plain, object, Object, traced, untraced, Graph, nth, rootValue, graphLive}
 
 -- ROOT of the root numbers that a call names comes first; a graph has no shape to be refused
 abbrev pub onGraphRoots : List ℕ → Graph → Outcome Graph → Outcome Graph
@@ -49,8 +49,13 @@ sameInteger (negsuc a) (negsuc b) = eqb a b
 abbrev pub samePlain : Plain → Plain → Bool
 samePlain (integer a) (integer b) = sameInteger a b
 samePlain (integer a) null = false
+samePlain (integer a) (code w) = false
 samePlain null (integer b) = false
 samePlain null null = true
+samePlain null (code w) = false
+samePlain (code v) (integer b) = false
+samePlain (code v) null = false
+samePlain (code v) (code w) = eqb v w
 
 abbrev pub sameValue : Value → Value → Bool
 sameValue (plain a) (plain b) = samePlain a b
@@ -74,6 +79,7 @@ wrongKind g i xs = says (Says.Refused Why.Kind) g
 abbrev pub plainAnswer : Plain → Answer
 plainAnswer (integer v) = Says.Integer v
 plainAnswer null = Says.Null
+plainAnswer (code w) = Says.Code w
 
 unfoldable pub inspected : Graph → Value → Outcome Graph
 inspected g (plain p) = says (plainAnswer p) g
@@ -94,6 +100,10 @@ graphStep (Ask.SetInteger to value) g =
 graphStep (Ask.SetNull to) g =
     onGraphRoots (to ∷ []) g
     (says Says.Done (graphWithRoot g to (plain null)))
+graphStep (Ask.SetCode to word) g =
+    onGraphRoots (to ∷ []) g
+    (refuse (not (isCode word)) Why.Range g
+    (says Says.Done (graphWithRoot g to (plain (code word)))))
 graphStep (Ask.Copy from to) g =
     onGraphRoots (from ∷ to ∷ []) g
     (says Says.Done (graphWithRoot g to (rootValue g from)))

@@ -45,6 +45,10 @@ pub record Lawful (Y : Layout) : Type 0 where
   pub writes : WritesBoth Y
   pub forwards : Marks Y
 
+-- an object's address is that of its header or of the word after it, so that it is no code word: `Laws.NoObjectIsCode`
+abbrev pub Adjacent : Layout → Type 0
+Adjacent Y = Y .ahead ≤ 1
+
 abbrev pub bit31 : Kind → ℕ
 bit31 Traced = 0
 bit31 Untraced = 2_147_483_648

@@ -1,5 +1,6 @@
 -- Further laws, as types: the record that most calls leave alone, what a window shows, integers and headers written and read
--- back, lengths, that answers in numbers can be told apart, and that a promise settles everything.
+-- back, objects' addresses and code words, lengths, that answers in numbers can be told apart, and that a promise settles
+-- everything.
 use Prim.Native.Nat.{ℕ, _*_, _%_, _≤_, _<_}
 use mathlib.Core.Path.{_≡_}
 use mathlib.Core.Logic.{_↔_}
@@ -19,13 +20,14 @@ use Rattle.model.specs.declared.Place.{Place}
 use Rattle.model.specs.declared.Place.the-variants as Place
 use Rattle.model.specs.Limits.{maxFields}
 use Rattle.model.specs.Words.{State, at}
-use Rattle.model.specs.Values.{isOdd, inRange, tag, untag}
+use Rattle.model.specs.Values.{isOdd, isCode, inRange, tag, untag}
 use Rattle.model.specs.Headers.{Layout, Lawful, tuple}
-use Rattle.model.specs.Objects.{index, fieldCount, fieldIndex}
+use Rattle.model.specs.Objects.{address, index, fieldCount, fieldIndex}
 use Rattle.model.specs.Answers.{Outcome, outcomeOf, told}
 use Rattle.model.specs.Changes.{rootWord}
 use Rattle.model.specs.Window.{window, shown, windowCount, windowWord}
 use Rattle.model.specs.Sessions.{Machine}
+use Rattle.model.specs.Conditions.{BadShape}
 
 -- ---- the record
 
@@ -36,6 +38,7 @@ changesRecord Ask.Check = false
 changesRecord (Ask.Allocate kind fields to) = true
 changesRecord (Ask.SetInteger to value) = false
 changesRecord (Ask.SetNull to) = false
+changesRecord (Ask.SetCode to word) = false
 changesRecord (Ask.Copy from to) = false
 changesRecord (Ask.Load object field to) = false
 changesRecord (Ask.Store object field from) = false
@@ -86,6 +89,11 @@ pub record HeaderLaw : Type 0 where
   -- a word is a header exactly when bit 0 is clear, and then it is that of its kind and count: bit 31, and bits 1 to 30
   pub bit0 : (h : ℕ) → (tuple .isHeader h ≡ true) ↔ (h % 2 ≡ 0)
   pub bits : (h : ℕ) → h < 4_294_967_296 → h % 2 ≡ 0 → tuple .header (tuple .kindOf h) (tuple .countOf h) ≡ h
+
+-- no object's address is a code word: the largest of any heap lies below the floor, in every layout that is `Adjacent`. Demand 3
+-- stands on it: what a root holds is told as an object or as a code word, never as both.
+abbrev pub NoObjectIsCode : Layout → Type 0
+NoObjectIsCode Y = (s : State) → (BadShape s → ⊥) → (i : ℕ) → i < length (s .heap) → isCode (address Y i) ≡ false
 
 -- ---- calls
 

@@ -20,6 +20,7 @@ pub mod Sessions
 pub mod Graph
 pub mod GraphCalls
 pub mod Worked
+pub mod CodeWords
 pub mod Unnamed
 pub mod Unsound
 pub mod EachCall

@@ -1,4 +1,5 @@
--- The numbers that bound everything, each named once. Document 01, "Words, addresses and halves", "Values and objects", COUNT.
+-- The numbers that bound everything, each named once. Document 01, "Words, addresses and halves", "Values and objects", COUNT;
+-- document 02, Q-1.
 use Prim.Native.Nat.{ℕ}
 
 -- words in a half, S, at most
@@ -19,3 +20,7 @@ maxFields = 1_073_741_823
 -- the largest integer; the smallest is -1 less it, -1,073,741,824
 abbrev pub maxInteger : ℕ
 maxInteger = 1_073_741_823
+
+-- every even word from here up is a code word
+abbrev pub codeFloor : ℕ
+codeFloor = 16_777_216

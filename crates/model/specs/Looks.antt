@@ -10,7 +10,7 @@ use Rattle.model.specs.declared.Kind.the-variants.{Traced}
 use Rattle.model.specs.declared.Call.{Call}
 use Rattle.model.specs.declared.Call.the-variants as Ask
 use Rattle.model.specs.Words.{State, withHeap, at, free}
-use Rattle.model.specs.Values.{inRange, tag}
+use Rattle.model.specs.Values.{isCode, inRange, tag}
 use Rattle.model.specs.Headers.{Layout}
 use Rattle.model.specs.Objects.{address, index, kind, fieldCount, fieldIndex}
 use Rattle.model.specs.Soundness.{headers}
@@ -34,6 +34,7 @@ sight Ask.Check = anyWord
 sight (Ask.Allocate _ _ _) = anyWord
 sight (Ask.SetInteger _ _) = noWord
 sight (Ask.SetNull _) = noWord
+sight (Ask.SetCode _ _) = noWord
 sight (Ask.Copy _ _) = noWord
 sight (Ask.Load object _ _) = objectOf object
 sight (Ask.Store object _ _) = objectOf object
@@ -60,19 +61,21 @@ module _ (Y : Layout) where
   Agrees s H (objectOf r) = AgreeAt s H (index Y (rootWord s r))
   Agrees s H anyWord = H ≡ s .heap
 
-  -- where a word of a root may come from, in a sound state
-  pub data Origin (s : State) : ℕ → Type 0 where
+  -- where a word of a root may come from, after a call c on a sound state
+  pub data Origin (s : State) (c : Call) : ℕ → Type 0 where
     -- an old root's word, and what a collection makes of it
-    oldRoot : (r : ℕ) → r < length (s .roots) → Origin s (rootWord s r)
-    renamed : (r w : ℕ) → r < length (s .roots) → Became Y s (rootWord s r) w → Origin s w
-    -- a field of a traced object of the tiling, an integer's word, null
+    oldRoot : (r : ℕ) → r < length (s .roots) → Origin s c (rootWord s r)
+    renamed : (r w : ℕ) → r < length (s .roots) → Became Y s (rootWord s r) w → Origin s c w
+    -- a field of a traced object of the tiling
     field : (i f : ℕ) → List·Memᴰ i (headers Y s) → kind Y (s .heap) i ≡ Traced → f < fieldCount Y (s .heap) i
-        → Origin s (at (s .heap) (fieldIndex i f))
-    integer : (v : ℤ) → inRange v ≡ true → Origin s (tag v)
-    null : Origin s 0
+        → Origin s c (at (s .heap) (fieldIndex i f))
+    -- an integer's word, null or a code word, where the call sets a root to it
+    integer : (to : ℕ) (v : ℤ) → c ≡ Ask.SetInteger to v → inRange v ≡ true → Origin s c (tag v)
+    null : (to : ℕ) → c ≡ Ask.SetNull to → Origin s c 0
+    code : (to w : ℕ) → c ≡ Ask.SetCode to w → isCode w ≡ true → Origin s c w
     -- the address of a new object, at the free index before or after a collection
-    placed : Origin s (address Y (free s))
-    placedThen : Origin s (address Y (free (collected Y s)))
+    placed : Origin s c (address Y (free s))
+    placedThen : Origin s c (address Y (free (collected Y s)))
 
   pub record Looks (M : Machine) : Type 0 where
     -- two heaps of one length that agree on what the call looks at: the same answer, roots and record
@@ -84,4 +87,4 @@ module _ (Y : Layout) where
     pub shows : (r : ℕ) (s : State) (H : List ℕ) → length H ≡ length (s .heap) → Agrees s H (objectOf r)
         → shown H (window Y r s) ≡ shown (s .heap) (window Y r s)
     -- raw words never enter a root
-    pub enters : (c : Call) (s : State) (r : ℕ) → Sound Y s → r < length (s .roots) → Origin s (rootWord (M .step c s .left) r)
+    pub enters : (c : Call) (s : State) (r : ℕ) → Sound Y s → r < length (s .roots) → Origin s c (rootWord (M .step c s .left) r)

@@ -40,8 +40,8 @@ module _ (Y : Layout) where
   abbrev pub fieldWords : List ℕ → ℕ → List ℕ
   fieldWords H i = take (fieldCount H i) (drop (i + 1) H)
 
-  -- a word names an object when it is even, not 0, a multiple of 4, its index lies in the current half below the free
-  -- index, the word there is a header, and n + 1 words from there end at or before the free index
+  -- a word names an object when it is even, not 0, below the floor, a multiple of 4, its index lies in the current half below
+  -- the free index, the word there is a header, and n + 1 words from there end at or before the free index
   unfoldable pub names : State → ℕ → Bool
   names s w =
       isAddress w && eqb (w % 4) 0 && leb (firstWord s) (index w) && ltb (index w) (free s)

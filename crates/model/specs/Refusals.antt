@@ -1,8 +1,9 @@
--- Document 01's table of refusals: each row with its condition, stated apart from the calls' definitions, and for each call the
--- rows that it can meet, in their order. Demand1 says that a call gives the first that applies. The numbers are names; the order
--- is by `rank`.
+-- Document 01's table of refusals, with document 02's rows: each row with its condition, stated apart from the calls' definitions,
+-- and for each call the rows that it can meet, in their order. Demand1 says that a call gives the first that applies. The numbers
+-- are names; the order is by `rank`.
 use Prim.Native.Nat.{ℕ, _+_, _%_, _≤_, _<_}
 use mathlib.Core.Path.{_≡_}
+use mathlib.Core.Logic.{_⊎_}
 use mathlib.Core.List.{List, [], _∷_, List·Memᴰ}
 use lib.ListN.{length}
 use lib.IntN.{ℤ, pos, negsuc}
@@ -12,7 +13,7 @@ use Rattle.model.specs.declared.Refusal.{Refusal}
 use Rattle.model.specs.declared.Refusal.the-variants as Why
 use Rattle.model.specs.declared.Call.{Call}
 use Rattle.model.specs.declared.Call.the-variants as Ask
-use Rattle.model.specs.Limits.{maxFields, maxInteger}
+use Rattle.model.specs.Limits.{maxFields, maxInteger, codeFloor}
 use Rattle.model.specs.Words.{State}
 use Rattle.model.specs.Headers.{Layout}
 use Rattle.model.specs.Objects.{index, kind, fieldCount}
@@ -51,18 +52,23 @@ abbrev pub OutOfRange : ℤ → Type 0
 OutOfRange (pos n) = maxInteger < n
 OutOfRange (negsuc n) = maxInteger < n
 
+-- or a word to be set as a code word is odd or below the floor
+abbrev pub NoCode : ℕ → Type 0
+NoCode w = (w % 2 ≡ 1) ⊎ (w < codeFloor)
+
 -- 8 and 9: a collection is called for, where n + 1 words do not fit
 abbrev pub CalledFor : ℕ → State → Type 0
 CalledFor n s = spare s < n + 1
 
 module _ (Y : Layout) (s : State) where
-  -- 5: the root that must name an object does not; for inspect, its word is even, not 0 and names none
+  -- 5: the root that must name an object does not; for inspect, its word is even, not 0, below the floor and names none
   abbrev pub NoObject : ℕ → Type 0
   NoObject r = Names Y s (rootWord s r) → ⊥
 
   pub record NoValue (r : ℕ) : Type 0 where
     pub even : rootWord s r % 2 ≡ 0
     pub notNull : rootWord s r ≡ 0 → ⊥
+    pub belowFloor : rootWord s r < codeFloor
     pub namesNone : NoObject r
 
   -- 6: a traced call on an untraced object, or the reverse
@@ -85,6 +91,7 @@ rootsNamed Ask.Check = []
 rootsNamed (Ask.Allocate kind fields to) = to ∷ []
 rootsNamed (Ask.SetInteger to value) = to ∷ []
 rootsNamed (Ask.SetNull to) = to ∷ []
+rootsNamed (Ask.SetCode to word) = to ∷ []
 rootsNamed (Ask.Copy from to) = from ∷ to ∷ []
 rootsNamed (Ask.Load object field to) = object ∷ to ∷ []
 rootsNamed (Ask.Store object field from) = object ∷ from ∷ []
@@ -114,6 +121,7 @@ module _ (Y : Layout) where
       ∷ row Why.Room (CalledFor fields s × CalledFor fields (collected Y s)) ∷ []
   ownRows (Ask.SetInteger to value) s = row Why.Range (OutOfRange value) ∷ []
   ownRows (Ask.SetNull to) s = []
+  ownRows (Ask.SetCode to word) s = row Why.Range (NoCode word) ∷ []
   ownRows (Ask.Copy from to) s = []
   ownRows (Ask.Load object field to) s = fieldRows Traced object field s
   ownRows (Ask.Store object field from) s = fieldRows Traced object field s

@@ -7,23 +7,25 @@ use mathlib.Core.List.{List}
 use lib.ListN.{length, getD}
 use Rattle.model.specs.declared.Kind.the-variants.{Traced, Untraced}
 use Rattle.model.specs.Words.{State, at}
-use Rattle.model.specs.Values.{inRange, tag}
+use Rattle.model.specs.Values.{isCode, inRange, tag}
 use Rattle.model.specs.Headers.{Layout}
 use Rattle.model.specs.Objects.{address, kind, fieldCount, fieldIndex}
 use Rattle.model.specs.Discovery.{mem}
 use Rattle.model.specs.Soundness.{headers}
 use Rattle.model.specs.Changes.{rootWord}
 use Rattle.model.specs.Conditions.{Sound}
-use Rattle.model.specs.Graph.{Plain, integer, null, Value, plain, object, Object, traced, untraced, Graph, nth, rootValue}
+use Rattle.model.specs.Graph.{Plain, integer, null, code, Value, plain, object, Object, traced, untraced, Graph, nth, rootValue}
 
 -- the word of a plain value, and which values have one
 abbrev pub plainWord : Plain → ℕ
 plainWord (integer v) = tag v
 plainWord null = 0
+plainWord (code w) = w
 
 abbrev pub hasWord : Plain → Bool
 hasWord (integer v) = inRange v
 hasWord null = true
+hasWord (code w) = isCode w
 
 module _ (Y : Layout) where
   -- a value and its word, where the objects `kept` have their headers at the indexes that `headerOf` gives

@@ -16,6 +16,7 @@ step Y Ask.Check s = Calls.check Y s
 step Y (Ask.Allocate kind fields to) s = Calls.allocate Y kind fields to s
 step Y (Ask.SetInteger to value) s = Calls.setInteger to value s
 step Y (Ask.SetNull to) s = Calls.setNull to s
+step Y (Ask.SetCode to word) s = Calls.setCode to word s
 step Y (Ask.Copy from to) s = Calls.copy from to s
 step Y (Ask.Load object field to) s = Calls.load Y object field to s
 step Y (Ask.Store object field from) s = Calls.store Y object field from s

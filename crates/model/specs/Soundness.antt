@@ -1,4 +1,4 @@
--- When a heap is sound. Document 01, "Values and objects".
+-- When a heap is sound. Document 01, "Values and objects", and for code words document 02's Q-1.
 use Prim.Native.Nat.{ℕ, zero, suc, _+_, _-_, _%_}
 use mathlib.Core.Bool.{Bool, true, not, cond, _&&_, _||_}
 use mathlib.Core.List.{List, [], _∷_}
@@ -42,7 +42,7 @@ module _ (Y : Layout) where
   abbrev pub headers : State → List ℕ
   headers s = headersFrom (s .heap) (free s) (free s - firstWord s) (firstWord s)
 
-  -- odd, 0, or the address of a header among hs
+  -- odd, 0, a code word, or the address of a header among hs
   unfoldable pub isValue : List ℕ → ℕ → Bool
   isValue hs w = not (isAddress w) || (eqb (w % 4) 0 && mem (index Y w) hs)
 
@@ -51,7 +51,8 @@ module _ (Y : Layout) where
   fieldsAreValues H hs i = not (isTraced (kind Y H i)) || all (isValue hs) (fieldWords Y H i)
 
   -- SHAPE does not apply; word 0 is 0; the idle half is all 0; the current half from the free index on is 0; objects tile
-  -- the used part exactly; each root and each field of a traced object is odd, 0, or the address of a header of that tiling
+  -- the used part exactly; each root and each field of a traced object is odd, 0, a code word, or the address of a header of
+  -- that tiling
   unfoldable pub sound : State → Bool
   sound s =
       let H = s .heap in

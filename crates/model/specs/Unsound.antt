@@ -29,13 +29,13 @@ isUnsound s =
 -- every call that names a root: the root r, and the root 0 where it names a second
 abbrev pub rootCalls : ℕ → List Call
 rootCalls r =
-    Ask.Allocate Traced 0 r ∷ Ask.SetInteger r (pos 0) ∷ Ask.SetNull r ∷ Ask.Copy r 0 ∷ Ask.Copy 0 r
-    ∷ Ask.Load r 0 0 ∷ Ask.Load 0 0 r ∷ Ask.Store r 0 0 ∷ Ask.Store 0 0 r ∷ Ask.RawRead r 0 ∷ Ask.RawWrite r 0 0
+    Ask.Allocate Traced 0 r ∷ Ask.SetInteger r (pos 0) ∷ Ask.SetNull r ∷ Ask.SetCode r 16_777_216 ∷ Ask.Copy r 0
+    ∷ Ask.Copy 0 r ∷ Ask.Load r 0 0 ∷ Ask.Load 0 0 r ∷ Ask.Store r 0 0 ∷ Ask.Store 0 0 r ∷ Ask.RawRead r 0 ∷ Ask.RawWrite r 0 0
     ∷ Ask.Same r 0 ∷ Ask.Same 0 r ∷ Ask.Inspect r ∷ []
 
 -- SHAPE applies, whatever is asked
 abbrev pub isMisshapen : State → Case
-isMisshapen s = unchanged s (Ask.Collect ∷ Ask.Check ∷ rootCalls 0) (replicate 16 (refused 1))
+isMisshapen s = unchanged s (Ask.Collect ∷ Ask.Check ∷ rootCalls 0) (replicate 17 (refused 1))
 
 -- n words, all 0, and a null root: whatever is used of them is objects with no fields
 abbrev pub zeros : ℕ → Half → ℕ → State
@@ -109,11 +109,12 @@ ofWords =
     -- .. tile the used part exactly: two fields end past the free index, and so does the largest n
     ∷ wordA 3 4 ∷ wordB 8 4 ∷ wordA 3 0xfffffffe ∷ [])
 
--- each root is odd, 0, or the address of a header of that tiling
+-- each root is odd, 0, a code word, or the address of a header of that tiling
 abbrev pub ofRoots : List Case
 ofRoots =
     isSound (rootA 5) 0 (state B 6 (replicate 11 0) (5 ∷ []))
     ∷ isSound (rootA 0) 0 (zeros 11 B 6)
+    ∷ isSound (rootA 16_777_218) 0 (state B 6 (replicate 11 0) (16_777_218 ∷ []))
     ∷ isSound (rootA 12) 2 (oneB 2 1)
     -- no header of the tiling, although it names an object: word 2, 4, has the shape of one with two fields
     ∷ unchanged (rootA 8) (Ask.Inspect 0 ∷ Ask.Check ∷ Ask.Collect ∷ [])
@@ -122,7 +123,9 @@ ofRoots =
     -- even and no multiple of 4, though it lies in a header's word
     (rootA 6
     -- the free word; the idle half; no words of the heap
-    ∷ rootA 20 ∷ rootA 24 ∷ rootA 44 ∷ rootA 0xfffffffc
+    ∷ rootA 20 ∷ rootA 24 ∷ rootA 44 ∷ rootA 16_777_212
+    -- just below the floor, and no multiple of 4
+    ∷ rootA 16_777_214
     -- the last root alone
     ∷ state A 5 two (4 ∷ 6 ∷ []) ∷ [])
 
@@ -132,10 +135,12 @@ ofFields =
     -- of a live one
     isSound (wordA 2 1) 2 (oneB 2 1)
     ∷ isSound (wordA 2 0) 2 (oneB 2 0)
+    ∷ isSound (wordA 2 16_777_216) 2 (oneB 2 16_777_216)
     ∷ isSound (wordA 2 12) 4 (state B 10 (replicate 6 0 ++ 2 ∷ 32 ∷ 2 ∷ 1 ∷ 0 ∷ []) (24 ∷ []))
-    ∷ map isUnsound (wordA 2 6 ∷ wordA 2 8 ∷ wordA 2 20 ∷ wordA 2 24 ∷ [])
+    ∷ map isUnsound (wordA 2 6 ∷ wordA 2 8 ∷ wordA 2 20 ∷ wordA 2 24 ∷ wordA 2 16_777_214 ∷ [])
     -- of garbage
     ++ isSound (wordA 4 12) 2 (oneB 2 24)
+    ∷ isSound (wordA 4 0xfffffffe) 2 (oneB 2 24)
     ∷ map isUnsound (wordA 4 6 ∷ wordA 4 8 ∷ wordA 4 20 ∷ wordA 4 24 ∷ [])
     -- the last field alone
     ++ isUnsound (state A 4 (0 ∷ 4 ∷ 1 ∷ 6 ∷ replicate 7 0) (4 ∷ []))

@@ -1,7 +1,7 @@
 -- The worked heaps of document 01, P1 to P10 and the Fresh cases: one table and one statement, computed by
--- the checker. A case is a run of session calls, with its answers in the paper's numbers. Unnamed, Unsound
--- and EachCall have further tables of cases, and Edges has the limits. The program `cases` runs every case
--- of the four tables.
+-- the checker. A case is a run of session calls, with its answers in the paper's numbers. CodeWords, Unnamed,
+-- Unsound and EachCall have further tables of cases, and Edges has the limits. The program `cases` runs every
+-- case of the five tables.
 use Prim.Native.Nat.{ℕ, _+_, _*_}
 use mathlib.Core.Path.{_≡_, refl}
 use mathlib.Core.List.{List, [], _∷_, _++_, map}
@@ -23,7 +23,7 @@ use Rattle.model.specs.Soundness.{tiles, headersFrom, isValue, fieldsAre
 use Rattle.model.specs.Collection.{wordLeads, orderAt, live, rename, copied}
 use Rattle.model.specs.Answers.{refuse, tells, tellsInteger, told}
 use Rattle.model.specs.Changes.{placed}
-use Rattle.model.specs.Calls.{fresh, freshRecord, check, collect, allocate, setInteger, setNull, copy, load, store}
+use Rattle.model.specs.Calls.{fresh, freshRecord, check, collect, allocate, setInteger, setNull, setCode, copy, load, store}
 use Rattle.model.specs.Calls.{rawRead, rawWrite, same, inspect}
 use Rattle.model.specs.Sessions.{step, machine, answers, after}
 
@@ -58,7 +58,7 @@ expected c = record { answered = c .answered; left = c .left }
 unfoldable pub ran : Case → Result
 unfolding tuple untag badShapeOf names mem visit visits packed wordsBefore found
     tiles headersFrom isValue fieldsAreValues sound wordLeads orderAt live rename copied
-    refuse placed fresh check collect allocate setInteger setNull copy load store rawRead rawWrite same inspect
+    refuse placed fresh check collect allocate setInteger setNull setCode copy load store rawRead rawWrite same inspect
     step answers after
 ran c = record {
   answered = map told (answers (machine tuple) (c .calls) (c .start));
@@ -77,7 +77,7 @@ refused k = tells k 0 0
 abbrev pub gives : ℕ → Told
 gives v = tells 0 0 v
 
--- inspect: null, the integer v, a traced or an untraced object with n fields
+-- inspect: null, the integer v, a traced or an untraced object with n fields, the code word w
 abbrev pub holdsNull : Told
 holdsNull = tells 0 0 0
 
@@ -89,6 +89,9 @@ holdsTraced n = tells 0 2 n
 
 abbrev pub holdsUntraced : ℕ → Told
 holdsUntraced n = tells 0 3 n
+
+abbrev pub holdsCode : ℕ → Told
+holdsCode w = tells 0 4 w
 
 -- half A or B, the free index, the heap's words and the roots
 abbrev pub state : Half → ℕ → List ℕ → List ℕ → State
@@ -151,8 +154,9 @@ cases =
     ∷ Ask.Collect ∷ Ask.RawRead 0 0 ∷ Ask.Inspect 0 ∷ [])
     (done ∷ done ∷ done ∷ gives 3 ∷ gives 0x6c6c6568 ∷ holdsUntraced 2 ∷ [])
     (state B 12 (replicate 9 0 ++ 0x80000004 ∷ 0x6c6c6568 ∷ 0x0000006f ∷ replicate 5 0) (36 ∷ []))
-    -- its second word looks like an address: a root that held it would have to name an object
-    ∷ unchanged (empty 0x6c6c6568) (Ask.Inspect 0 ∷ Ask.Collect ∷ []) (refused 5 ∷ refused 8 ∷ [])
+    -- its second word looks like a code word: a root that held it would hold one
+    ∷ case (empty 0x6c6c6568) (Ask.Inspect 0 ∷ Ask.Collect ∷ []) (holdsCode 0x6c6c6568 ∷ gives 0 ∷ [])
+    (state B 9 blank (0x6c6c6568 ∷ []))
     -- P5, P6, P7, P8
     ∷ one (p5With 24 12) Ask.Collect (gives 4) (state B 13 p5′ (36 ∷ 40 ∷ []))
     ∷ one (p5With 24 12) (Ask.Allocate Traced 3 1) done (state B 17 (set p5′ 13 6) (36 ∷ 52 ∷ []))

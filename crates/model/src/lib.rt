@@ -37,7 +37,7 @@ pub enum Refusal {
     Root,
     // More fields than a header can hold.
     Count,
-    // An integer that a word cannot hold.
+    // An integer that a word cannot hold, or a word to be set as a code word that is none.
     Range,
     // The root names no object.
     Object,
@@ -65,6 +65,7 @@ pub enum Answer {
     Null,
     Integer(i32),
     Object(Kind, u32),
+    Code(u32),
     // A raw word.
     Number(u32),
     Refused(Refusal),
@@ -87,11 +88,12 @@ pub fn say(answer: Answer, record: Record) -> Answered
 pub struct Told {
     // The refusal's number, 0 for none.
     pub refusal: u32,
-    // What the root of an inspect holds: 0 null, 1 an integer, 2 a traced object, 3 an untraced one.
+    // What the root of an inspect holds: 0 null, 1 an integer, 2 a traced object, 3 an untraced one, 4 a code
+    // word.
     pub holds: u32,
     // The integer that it holds, else 0.
     pub integer: i32,
-    // Live words, a field count, a raw word, or 1 for sound and for yes.
+    // Live words, a field count, a code word, a raw word, or 1 for sound and for yes.
     pub value: u32,
 }
 
@@ -110,6 +112,10 @@ pub enum Call {
     },
     SetNull {
         to: usize,
+    },
+    SetCode {
+        to: usize,
+        word: u32,
     },
     Copy {
         from: usize,

@@ -1,23 +1,25 @@
 -- An object that a word names lies in the heap: what SHAPE and the test of the name say of its words.
 use Prim.Native.Nat.{ℕ, suc, _+_, _-_, _≤_, _<_, _%_}
 use native.Mathlib.Omega.{arith}
-use mathlib.Core.Path.{_≡_, sym, _∙_}
+use mathlib.Core.Path.{_≡_, sym, ap, _∙_}
 use mathlib.Core.Logic.{⊎-elim}
 use mathlib.Core.Bool.{Bool, true, false, not, cond, _&&_, and-false, and-assoc}
 use mathlib.Core.List.{List}
 use lib.Dec.{ltb, leb, eqb}
 use lib.ListN.{length}
-use borrow.Author.Tests.{leb-true, eqb-true, eq-eqb, ne-eqb}
+use borrow.Author.Tests.{leb-true, ltb-true, eqb-true}
 use Rattle.model.specs.declared.Kind.{Kind}
 use Rattle.model.specs.declared.Record.{Record}
 use Rattle.model.specs.declared.Refusal.the-variants as Why
 use Rattle.model.specs.Words.{State, at, stateOf, firstWord, free}
 use Rattle.model.specs.Values.{isAddress}
-use Rattle.model.specs.Headers.{Layout}
+use Rattle.model.specs.Limits.{maxWords}
+use Rattle.model.specs.Headers.{Layout, Adjacent}
 use Rattle.model.specs.Objects.{index, size, kind, fieldCount, fieldIndex, names}
 use Rattle.model.specs.Shape.{badShape}
 use Rattle.model.proofs.Tests.{by-test, and-both}
 use Rattle.model.proofs.Shape.{shaped, first-in}
+use Rattle.model.proofs.WordSorts.{parts-address}
 use Rattle.model.specs.Calls.{isOfKind}
 use Rattle.words.proofs.ShapeTests.{same-test}
 use Rattle.naming.specs.declared.Field.the-variants.{At, Refused}
@@ -29,20 +31,25 @@ free-in-heap s h =
     let f = first-in s g in
     record { least = f .0; begins = g .low; within = omega arith; most = omega arith }
 
-module _ (Y : Layout) where
-  -- a multiple of 4 whose index is not below 1 is even and not 0
-  needless : (w i first : ℕ) → i ≡ index Y w → 1 ≤ first
-      → (isAddress w && eqb (w % 4) 0 && leb first i) ≡ (eqb (w % 4) 0 && leb first i)
-  needless w i first e l =
+module _ (Y : Layout) (near : Adjacent Y) where
+  -- a multiple of 4 whose index is not below 1 is even and not 0, and one whose index is that of a heap word lies below the
+  -- floor of code words
+  needless : (w i first free : ℕ) → i ≡ index Y w → 1 ≤ first → free ≤ maxWords
+      → (isAddress w && eqb (w % 4) 0 && leb first i && ltb i free) ≡ (eqb (w % 4) 0 && leb first i && ltb i free)
+  needless w i first free e l m =
       ⊎-elim
-      (λ (a : (eqb (w % 4) 0 && leb first i) ≡ true).
-      let b = and-both (eqb (w % 4) 0) (leb first i) a in
-      let multiple : w % 4 ≡ 0 = eqb-true (w % 4) 0 (b .0) in
-      let above : first ≤ i = leb-true first i (b .1) in
-      rw (eq-eqb (w % 2) 0 (omega arith), ne-eqb w 0 (λ z. omega arith)))
-      (λ (a : (eqb (w % 4) 0 && leb first i) ≡ false).
-      and-assoc (isAddress w) (eqb (w % 4) 0) (leb first i) ∙ rw a (and-false (isAddress w)))
-      (by-test (eqb (w % 4) 0 && leb first i))
+      (λ (a : (eqb (w % 4) 0 && leb first i && ltb i free) ≡ true).
+      let b = and-both (eqb (w % 4) 0 && leb first i) (ltb i free) a in
+      let c = and-both (eqb (w % 4) 0) (leb first i) (b .0) in
+      let multiple : w % 4 ≡ 0 = eqb-true (w % 4) 0 (c .0) in
+      let above : first ≤ i = leb-true first i (c .1) in
+      let below : i < free = ltb-true i free (b .1) in
+      rw (parts-address w (omega arith) (λ z. omega arith) (omega arith)))
+      (λ (a : (eqb (w % 4) 0 && leb first i && ltb i free) ≡ false).
+      ap (λ (b : Bool). b && ltb i free) (and-assoc (isAddress w) (eqb (w % 4) 0) (leb first i))
+      ∙ and-assoc (isAddress w) (eqb (w % 4) 0 && leb first i) (ltb i free)
+      ∙ rw a (and-false (isAddress w)))
+      (by-test (eqb (w % 4) 0 && leb first i && ltb i free))
 
   -- the name by four tests, whatever each comes to, at the index and the half's first word as the code has them
   pub names-tests : {b c h l : Bool} (s : State) (w i first : ℕ) → FreeInHeap (s .heap) (s .«record»)
@@ -54,7 +61,7 @@ module _ (Y : Layout) where
       let end : first + (free s - first) ≡ free s = omega (arith, g, f) in
       simp (sym e, sym f) (
       rw (
-        needless w i first e (omega (arith, g, f)),
+        needless w i first (free s) e (omega (arith, g, f)) (omega (arith, g)),
         and-assoc (eqb (w % 4) 0) (leb first i) (ltb i (free s)),
         rw end at pc,
         pb,
@@ -62,6 +69,7 @@ module _ (Y : Layout) where
         same-test (i + (n + 1)) (free s) (suc n) (free s - i) (λ k. omega arith) (λ k. omega arith) ∙ pl,
       ))
 
+module _ (Y : Layout) where
   pub named-ends : (s : State) (w : ℕ) → names Y s w ≡ true → index Y w + size Y (s .heap) (index Y w) ≤ free s
   unfolding names
   named-ends s w h =

@@ -7,6 +7,8 @@ use model::Kind;
 use model::Refusal;
 use model::Told;
 
+pub mod seen;
+
 pub fn number(refusal: Refusal) -> u32
     ensures { λ r. ⌜ r ≡ Answers.number refusal ⌝ }
 {
@@ -58,6 +60,13 @@ pub fn object(kind: Kind, fields: u32) -> Told
     }
 }
 
+// The numbers of a root that holds a code word.
+pub fn code(word: u32) -> Told
+    ensures { λ r. ⌜ r ≡ Answers.told (Says.Code word) ⌝ }
+{
+    tells(0, 4, word)
+}
+
 pub fn told(answer: Answer) -> Told
     ensures { λ r. ⌜ r ≡ Answers.told answer ⌝ }
 {
@@ -71,6 +80,7 @@ pub fn told(answer: Answer) -> Told
         Answer::Null => tells(0, 0, 0),
         Answer::Integer(value) => integer(value),
         Answer::Object(kind, fields) => object(kind, fields),
+        Answer::Code(word) => code(word),
         Answer::Number(number) => tells(0, 0, number),
         Answer::Refused(refusal) => tells(number(refusal), 0, 0),
     }

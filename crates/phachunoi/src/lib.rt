@@ -14,5 +14,5 @@ pub mod window;
 pub extern "C" fn phachunoi_version() -> u32
     ensures { λ r. ⌜ r ≡ Numbers.version ⌝ }
 {
-    2000
+    3000
 }

@@ -44,6 +44,23 @@ pub extern "C" fn phachunoi_set_null(
     answer_of(said)
 }
 
+// Root `to` gets a code word; or SHAPE, ROOT or RANGE.
+#[no_mangle]
+pub extern "C" fn phachunoi_set_code(
+    heap: &[u32],
+    roots: &mut [u32],
+    record: CRecord,
+    to: usize,
+    word: u32,
+) -> CAnswer
+    ensures { λ r. ⌜ kept r heap roots «record»
+        ≡ called (keeping answerOf) (Calls.setCode to word) heap roots «record» ⌝ }
+{
+    let done = blind::set_code(heap, roots, record_of(record), to, word);
+    let said = done.answer;
+    answer_of(said)
+}
+
 // Root `to` gets root `from`'s word; or SHAPE or ROOT.
 #[no_mangle]
 pub extern "C" fn phachunoi_copy(
@@ -89,6 +106,6 @@ pub extern "C" fn phachunoi_inspect(
     ensures { λ r. ⌜ kept r heap roots «record»
         ≡ called (keeping seenOf) (Calls.inspect Layouts.tuple root) heap roots «record» ⌝ }
 {
-    let told = views::tell(heap, roots, record_of(record), root);
-    seen_of(told)
+    let seen = views::tell(heap, roots, record_of(record), root);
+    seen_of(seen)
 }

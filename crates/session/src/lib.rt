@@ -19,6 +19,7 @@ pub fn step(heap: &mut [u32], roots: &mut [u32], record: Record, call: Call) -> 
         Call::Allocate { kind, fields, to } => allocate(heap, roots, record, kind, fields, to),
         Call::SetInteger { to, value } => blind::set_integer(heap, roots, record, to, value),
         Call::SetNull { to } => blind::set_null(heap, roots, record, to),
+        Call::SetCode { to, word } => blind::set_code(heap, roots, record, to, word),
         Call::Copy { from, to } => blind::copy(heap, roots, record, from, to),
         Call::Load { object, field, to } => objects::load(heap, roots, record, object, field, to),
         Call::Store {

@@ -1,25 +1,13 @@
-// Words as document 01 reads them, and the tuple layout: every header is written and read here and nowhere
-// else.
+// The tuple layout: every header is written and read here and nowhere else.
 ghost use mathlib.Core.Path.{_≡_};
 ghost use mathlib.Core.Bool.{false};
 ghost use Prim.Native.Nat.{_≤_, _<_};
 ghost use Rattle.model.specs.Limits.{maxWords, maxFields};
-ghost use Rattle.model.specs.Values.{isAddress};
 ghost use Rattle.model.specs.Headers as Layouts;
 ghost use Rattle.model.specs.Objects.{address, index, isTraced};
 use model::Address;
 use model::Index;
 use model::Kind;
-
-// Even and not 0: an object's address, if the heap is sound.
-pub fn is_address(word: u32) -> bool
-    ensures { λ r. ⌜ r ≡ isAddress word ⌝ }
-{
-    if word % 2 == 1 {
-        return false;
-    }
-    word != 0
-}
 
 // The layout of 001: bit 31 untraced, bits 1 to 30 the field count, bit 0 clear; forwarded, the new address
 // plus 1.

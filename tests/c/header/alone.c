@@ -10,6 +10,7 @@ int uses_every_inline_function(phachunoi_heap *h) {
   uint32_t sum = phachunoi_heap_check(h, &yes) + phachunoi_heap_collect(h, &number);
   sum += phachunoi_heap_allocate_traced(h, 1, 0) + phachunoi_heap_allocate_untraced(h, 1, 0);
   sum += phachunoi_heap_set_integer(h, 0, PHACHUNOI_INTEGER_MIN) + phachunoi_heap_set_null(h, 0);
+  sum += phachunoi_heap_set_code(h, 0, PHACHUNOI_CODE_FLOOR);
   sum += phachunoi_heap_copy(h, 0, 0) + phachunoi_heap_load(h, 0, 0, 0) + phachunoi_heap_store(h, 0, 0, 0);
   sum += phachunoi_heap_raw_read(h, 0, 0, &number) + phachunoi_heap_raw_write(h, 0, 0, 7);
   sum += phachunoi_heap_same(h, 0, 0, &yes) + phachunoi_heap_inspect(h, 0).refusal;

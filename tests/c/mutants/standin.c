@@ -9,7 +9,7 @@
 #define MUTANT 0
 #endif
 #define BUG(number) (MUTANT == (number))
-/* MUTANTS 26 */
+/* MUTANTS 49 */
 
 typedef struct phachunoi_record record_t;
 struct view { /* what a call was lent */
@@ -37,6 +37,18 @@ static int shape_ok(const struct view *v) {
   size_t end = end_of(v) - (BUG(3) && v->record.half == 1); /* an exactly full half B is refused */
   return length_ok(v->words) && v->root_count <= most && v->record.half <= 1 &&
          v->record.free >= first_of(v, v->record.half) && v->record.free <= end;
+}
+
+static int is_code(uint32_t word) {
+  uint32_t floor = PHACHUNOI_CODE_FLOOR + 2u * BUG(27) - 2u * BUG(28); /* the floor is one word too high; too low */
+  if (BUG(29) && word % 4 != 0) return 0;                              /* only multiples of 4 are code words */
+  if (BUG(30) && word >> 31) return 0;                                 /* words are compared as signed numbers */
+  return word % 2 == 0 && word >= floor;
+}
+
+static int plain(uint32_t word) {
+  if (BUG(31) && word >= PHACHUNOI_CODE_FLOOR - 4) return 1; /* words just below the floor are let through and kept */
+  return word % 2 == 1 || word == 0 || is_code(word);
 }
 
 static int names(const struct view *v, uint32_t word) {
@@ -69,7 +81,7 @@ static int tile(const struct view *v) {
 }
 
 static int good(const struct view *v, uint32_t word) {
-  if (word % 2 == 1 || word == 0) return 1;
+  if (plain(word)) return 1;
   if (word % 4 != 0 || word / 4 < first_of(v, v->record.half) || word / 4 >= v->record.free) return 0;
   return BUG(5) || *mark_of(v, word / 4); /* an address inside an object is let through */
 }
@@ -78,14 +90,14 @@ static int good_object(const struct view *v, size_t at) {
   size_t k, n = HEADER_COUNT(v->heap[at]);
   if (v->heap[at] >> 31) return 1;
   for (k = 1; k <= n - (BUG(6) && n > 0); k++) /* the last field is not looked at */
-    if (!good(v, v->heap[at + k])) return 0;
+    if (!good(v, v->heap[at + k]) || (BUG(32) && is_code(v->heap[at + k]))) return 0; /* no code word in a field */
   return 1;
 }
 
 static int good_all(const struct view *v) {
   size_t i;
   for (i = 0; i < v->root_count; i++)
-    if (!good(v, v->roots[i])) return 0;
+    if (!good(v, v->roots[i]) || (BUG(33) && is_code(v->roots[i]))) return 0; /* no code word in a root */
   for (i = first_of(v, v->record.half); i < v->record.free; i += HEADER_COUNT(v->heap[i]) + 1)
     if (!good_object(v, i)) return 0;
   return 1;
@@ -105,8 +117,10 @@ static int sound(const struct view *v) {
 /* ---- the collector: marks a copied object by its new address with bit 0 set ---- */
 
 static uint32_t forward(const struct view *v, uint32_t word, size_t *next) {
-  size_t at = word / 4, k;
-  if (word % 2 == 1 || word == 0) return word;
+  size_t at, k;
+  if (BUG(34) && names(v, word & 0xffffffu)) word &= 0xffffffu;         /* low bits of a code word are followed */
+  if (plain(word)) return BUG(35) && is_code(word) ? word & ~3u : word; /* two bits of a code word are lost */
+  at = word / 4;
   if (BUG(10) && (at >= v->words || word % 4 != 0)) return word; /* only so that mistake 10 stays inside the heap */
   if (v->heap[at] % 2 == 1 && !BUG(11)) return v->heap[at] - 1;  /* what is shared is copied twice */
   if (BUG(11) && v->heap[at] % 2 == 1) return word;
@@ -118,7 +132,8 @@ static uint32_t forward(const struct view *v, uint32_t word, size_t *next) {
 
 static void scan_object(const struct view *v, size_t at, size_t *next) {
   size_t k, n = HEADER_COUNT(v->heap[at]);
-  if (v->heap[at] >> 31 && !BUG(10)) return; /* raw words are followed */
+  if (v->heap[at] >> 31 && !BUG(10)) return;                /* raw words are followed */
+  if (BUG(36) && n > 0 && is_code(v->heap[at + 1])) return; /* a code word in field 0 ends an object's scan */
   for (k = 1; k <= n; k++) v->heap[at + k] = forward(v, v->heap[at + k], next);
 }
 
@@ -234,6 +249,19 @@ phachunoi_answer phachunoi_set_null(const uint32_t *heap, size_t words, uint32_t
   return answer(0, 0);
 }
 
+phachunoi_answer phachunoi_set_code(const uint32_t *heap, size_t words, uint32_t *roots, size_t root_count,
+                                    record_t record, size_t to, uint32_t word) {
+  VIEW;
+  int accepted = is_code(BUG(37) ? word & ~1u : word) || (BUG(38) && word == 0); /* an odd word is accepted; so is 0 */
+  if (!shape_ok(&v) && !BUG(39)) return answer(1, 0);                            /* SHAPE is not asked for */
+  if (BUG(40) && !sound(&v)) return answer(8, 0);                                /* the heap's words are looked at */
+  if (BUG(41)) to = (uint32_t)to;                                                /* a root number is narrowed */
+  if (BUG(42) && !accepted) return answer(4, 0);                                 /* RANGE before ROOT */
+  if (to >= root_count) return answer(2, 0);
+  if (accepted || BUG(43)) roots[to] = BUG(44) ? word & ~3u : BUG(45) ? 0 : word;
+  return answer(accepted ? 0 : 4, 0); /* mistakes 43: a refused word is written; 44: another word; 45: null */
+}
+
 phachunoi_answer phachunoi_copy(const uint32_t *heap, size_t words, uint32_t *roots, size_t root_count,
                                 record_t record, size_t from, size_t to) {
   VIEW;
@@ -247,6 +275,7 @@ static uint32_t field_of(const struct view *v, size_t object, size_t other, size
   uint32_t header;
   if (!shape_ok(v)) return 1;
   if (object >= v->root_count || other >= v->root_count) return 2;
+  if (BUG(46) && is_code(v->roots[object])) return 6; /* a code word is an object of another kind */
   if (!names(v, v->roots[object])) return 5;
   header = v->heap[v->roots[object] / 4];
   if (BUG(24) && field >= HEADER_COUNT(header)) return 7; /* FIELD before KIND */
@@ -306,13 +335,18 @@ phachunoi_answer phachunoi_same(const uint32_t *heap, size_t words, const uint32
 phachunoi_seen phachunoi_inspect(const uint32_t *heap, size_t words, const uint32_t *roots, size_t root_count,
                                  record_t record, size_t root) {
   VIEW;
-  phachunoi_seen a = {0, 0, 0, 0};
+  phachunoi_seen a = {0, 0, 0, 0, 0};
   if (!shape_ok(&v)) return a.refusal = 1, a;
   if (root >= root_count) return a.refusal = 2, a;
   if (roots[root] == 0) return a;
   if (roots[root] % 2 == 1) {
     a.kind = PHACHUNOI_INTEGER;
     a.integer = (int32_t)(roots[root] >> 1 | (BUG(25) ? 0 : roots[root] & 0x80000000u)); /* the sign is lost */
+    return a;
+  }
+  if (is_code(roots[root]) && !BUG(47)) { /* a code word is OBJECT */
+    a.kind = PHACHUNOI_CODE;
+    *(BUG(48) ? &a.count : &a.code) = roots[root]; /* its word is told as a count */
     return a;
   }
   if (!names(&v, roots[root])) return a.refusal = 5, a;
@@ -327,6 +361,7 @@ phachunoi_window phachunoi_open(const uint32_t *heap, size_t words, const uint32
   phachunoi_window w = {0, 0, 0};
   if (!shape_ok(&v)) return w.refusal = 1, w;
   if (object >= root_count) return w.refusal = 2, w;
+  if (BUG(49) && is_code(roots[object])) return w; /* a window on a code word has no words, and is not refused */
   if (!names(&v, roots[object])) return w.refusal = 5, w;
   w.first = roots[object] / 4 + 1;
   w.count = HEADER_COUNT(heap[roots[object] / 4]);

@@ -57,7 +57,7 @@ mark-alike-requires : tie.Need-mark-alike-requires Inv-loop μ-loop
 mark-alike-requires c κs =
     let tested = c .before .before in
     let h = sym (tested .is-header .ensures) ∙ not-false _ (c .before .if1 .left) in (
-      record { start = omega arith; used = omega arith; marks = omega arith },
+      record { start = omega arith; used = omega arith; most = omega arith; marks = omega arith },
       omega arith,
       more tested .loop-test .taken,
       refl,

@@ -8,7 +8,7 @@ use Rattle.engine_moving.proofs.rename.Reads as reads
 use Rattle.engine_moving.proofs.rename.Lts as lts
 use Rattle.engine_moving.proofs.relocate.Reads as relocate-reads
 use Rattle.words.proofs.tuple.Tuple.index_of.Reads as index-of-reads
-use Rattle.words.proofs.tuple.is_address.Reads as is-address-reads
+use Rattle.words.proofs.values.is_address.Reads as is-address-reads
 
 is-address-requires : tie.Need-is-address-requires
 is-address-requires c κs = search needs

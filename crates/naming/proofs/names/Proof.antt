@@ -7,6 +7,7 @@ use lib.Dec.{leb, ltb}
 use mathlib.Core.Bool.{_&&_}
 use mathlib.Core.List.{List, []}
 use Rattle.model.specs.Words.{State, stateOf, firstWord, free}
+use Rattle.model.proofs.Headers.{tuple-adjacent}
 use Rattle.words.proofs.FirstWords.{first-by-length}
 use Rattle.words.proofs.InRun.{in-run}
 use Rattle.naming.proofs.NamedObjects.{names-tests}
@@ -73,7 +74,7 @@ used c =
 returns : tie.Need-returns
 returns c = λ R.
     let s = c .before .before in
-    names-tests _ (lent s R) _ _ _ (s .pre) refl refl (ne-eqb _ _ (c .if1 .taken)) refl refl refl
+    names-tests _ tuple-adjacent (lent s R) _ _ _ (s .pre) refl refl (ne-eqb _ _ (c .if1 .taken)) refl refl refl
 
 half-words-requires : tie.Need-half-words-requires
 half-words-requires c κs = search needs
@@ -94,7 +95,7 @@ returns-2 : tie.Need-returns-2
 returns-2 c = λ R.
     let i = c .before .before in
     let a = aligned (based i) in
-    names-tests _ (lent (start a) R) _ _ _ (start a .pre)
+    names-tests _ tuple-adjacent (lent (start a) R) _ _ _ (start a .pre)
     (i .index-of .ensures) (first (based i)) (eq-eqb _ _ (a .if1 .left))
     (tested (c .before) ∙ not-true _ (c .if2 .taken)) refl refl
 
@@ -115,7 +116,7 @@ returns-3 c = λ R.
     let u = inside header in
     let i = indexed u in
     let a = aligned (based i) in
-    names-tests _ (lent (start a) R) _ _ _ (start a .pre)
+    names-tests _ tuple-adjacent (lent (start a) R) _ _ _ (start a .pre)
     (i .index-of .ensures) (first (based i)) (eq-eqb _ _ (a .if1 .left))
     (tested (u .before) ∙ not-false _ (u .if2 .left))
     (sym (header .is-header .ensures) ∙ not-true _ (c .if3 .taken)) refl
@@ -133,7 +134,7 @@ returns-4 c = λ R.
     let u = inside header in
     let i = indexed u in
     let a = aligned (based i) in
-    names-tests _ (lent (start a) R) _ _ _ (start a .pre)
+    names-tests _ tuple-adjacent (lent (start a) R) _ _ _ (start a .pre)
     (i .index-of .ensures) (first (based i)) (eq-eqb _ _ (a .if1 .left))
     (tested (u .before) ∙ not-false _ (u .if2 .left))
     (sym (header .is-header .ensures) ∙ not-false _ (headed .if3 .left))

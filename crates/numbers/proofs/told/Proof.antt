@@ -11,6 +11,7 @@ use Rattle.numbers.proofs.told.Reads as reads
 use Rattle.numbers.proofs.told.Lts as lts
 use Rattle.numbers.proofs.integer.Reads as integer-reads
 use Rattle.numbers.proofs.number.Reads as number-reads
+use Rattle.numbers.proofs.code.Reads as code-reads
 use Rattle.numbers.proofs.object.Reads as object-reads
 use Rattle.numbers.proofs.tells.Reads as tells-reads
 
@@ -71,11 +72,17 @@ object-requires c κs = search needs
 enum-known-answer-4 : tie.Need-enum-known-answer-4
 enum-known-answer-4 c = search needs
 
-tells-requires-8 : tie.Need-tells-requires-8
-tells-requires-8 c κs = search needs
+code-requires : tie.Need-code-requires
+code-requires c κs = search needs
 
 enum-known-answer-5 : tie.Need-enum-known-answer-5
 enum-known-answer-5 c = search needs
+
+tells-requires-8 : tie.Need-tells-requires-8
+tells-requires-8 c κs = search needs
+
+enum-known-answer-6 : tie.Need-enum-known-answer-6
+enum-known-answer-6 c = search needs
 
 number-requires : tie.Need-number-requires
 number-requires c κs = search needs
@@ -114,10 +121,13 @@ returns-9 : tie.Need-returns-9
 returns-9 c = rw (c .before .before .answer3 .given .1) (c .object .ensures)
 
 returns-10 : tie.Need-returns-10
-returns-10 c = rw (c .before .before .answer4 .given .1) (c .tells8 .ensures)
+returns-10 c = rw (c .before .before .answer4 .given .1) (c .code .ensures)
 
 returns-11 : tie.Need-returns-11
-returns-11 c = rw (c .before .before .before .answer5 .given .1) (rw (c .before .number .ensures) at (c .tells9 .ensures))
+returns-11 c = rw (c .before .before .answer5 .given .1) (c .tells8 .ensures)
+
+returns-12 : tie.Need-returns-12
+returns-12 c = rw (c .before .before .before .answer6 .given .1) (rw (c .before .number .ensures) at (c .tells9 .ensures))
 
 pub told-spec : {M : Type 1} → statement M
 told-spec =
@@ -142,8 +152,10 @@ told-spec =
     enum-known-answer-3
     object-requires
     enum-known-answer-4
-    tells-requires-8
+    code-requires
     enum-known-answer-5
+    tells-requires-8
+    enum-known-answer-6
     number-requires
     tells-requires-9
     returns
@@ -156,4 +168,5 @@ told-spec =
     returns-8
     returns-9
     returns-10
-    returns-11)
+    returns-11
+    returns-12)

@@ -14,6 +14,7 @@ use Rattle.objects.proofs.store.Reads as store-reads
 use Rattle.views.proofs.contents.inspect.Reads as inspect-reads
 use Rattle.blind.proofs.roots.copy.Reads as copy-reads
 use Rattle.blind.proofs.roots.same.Reads as same-reads
+use Rattle.blind.proofs.code.set_code.Reads as set-code-reads
 use Rattle.blind.proofs.integer.set_integer.Reads as set-integer-reads
 use Rattle.blind.proofs.roots.set_null.Reads as set-null-reads
 use Rattle.checker.proofs.check.Reads as check-reads
@@ -53,41 +54,47 @@ set-null-requires c κs = search needs
 enum-known-call-4 : tie.Need-enum-known-call-4
 enum-known-call-4 c = search needs
 
-copy-requires : tie.Need-copy-requires
-copy-requires c κs = search needs
+set-code-requires : tie.Need-set-code-requires
+set-code-requires c κs = search needs
 
 enum-known-call-5 : tie.Need-enum-known-call-5
 enum-known-call-5 c = search needs
 
-load-requires : tie.Need-load-requires
-load-requires c κs = search needs
+copy-requires : tie.Need-copy-requires
+copy-requires c κs = search needs
 
 enum-known-call-6 : tie.Need-enum-known-call-6
 enum-known-call-6 c = search needs
 
-store-requires : tie.Need-store-requires
-store-requires c κs = search needs
+load-requires : tie.Need-load-requires
+load-requires c κs = search needs
 
 enum-known-call-7 : tie.Need-enum-known-call-7
 enum-known-call-7 c = search needs
 
-raw-read-requires : tie.Need-raw-read-requires
-raw-read-requires c κs = search needs
+store-requires : tie.Need-store-requires
+store-requires c κs = search needs
 
 enum-known-call-8 : tie.Need-enum-known-call-8
 enum-known-call-8 c = search needs
 
-raw-write-requires : tie.Need-raw-write-requires
-raw-write-requires c κs = search needs
+raw-read-requires : tie.Need-raw-read-requires
+raw-read-requires c κs = search needs
 
 enum-known-call-9 : tie.Need-enum-known-call-9
 enum-known-call-9 c = search needs
 
-same-requires : tie.Need-same-requires
-same-requires c κs = search needs
+raw-write-requires : tie.Need-raw-write-requires
+raw-write-requires c κs = search needs
 
 enum-known-call-10 : tie.Need-enum-known-call-10
 enum-known-call-10 c = search needs
+
+same-requires : tie.Need-same-requires
+same-requires c κs = search needs
+
+enum-known-call-11 : tie.Need-enum-known-call-11
+enum-known-call-11 c = search needs
 
 inspect-requires : tie.Need-inspect-requires
 inspect-requires c κs = search needs
@@ -168,7 +175,7 @@ unfolding step
 returns-6 c =
     let called = c .before .before in
     let asked = called .before .before .before .before in
-    rw (asked .call4 .given .1) (called .copy .ensures)
+    rw (asked .call4 .given .1) (called .set-code .ensures)
 
 same-length-13 : tie.Need-same-length-13
 same-length-13 c = search needs
@@ -181,7 +188,7 @@ unfolding step
 returns-7 c =
     let called = c .before .before in
     let asked = called .before .before .before .before in
-    rw (asked .call5 .given .1) (called .load .ensures)
+    rw (asked .call5 .given .1) (called .copy .ensures)
 
 same-length-15 : tie.Need-same-length-15
 same-length-15 c = search needs
@@ -194,7 +201,7 @@ unfolding step
 returns-8 c =
     let called = c .before .before in
     let asked = called .before .before .before .before in
-    rw (asked .call6 .given .1) (called .store .ensures)
+    rw (asked .call6 .given .1) (called .load .ensures)
 
 same-length-17 : tie.Need-same-length-17
 same-length-17 c = search needs
@@ -205,8 +212,9 @@ same-length-18 c = search needs
 returns-9 : tie.Need-returns-9
 unfolding step
 returns-9 c =
-    let asked = c .before .before .before .before in
-    rw (asked .call7 .given .1) (c .raw-read .ensures)
+    let called = c .before .before in
+    let asked = called .before .before .before .before in
+    rw (asked .call7 .given .1) (called .store .ensures)
 
 same-length-19 : tie.Need-same-length-19
 same-length-19 c = search needs
@@ -217,9 +225,8 @@ same-length-20 c = search needs
 returns-10 : tie.Need-returns-10
 unfolding step
 returns-10 c =
-    let called = c .before .before in
-    let asked = called .before .before .before .before in
-    rw (asked .call8 .given .1) (called .raw-write .ensures)
+    let asked = c .before .before .before .before in
+    rw (asked .call8 .given .1) (c .raw-read .ensures)
 
 same-length-21 : tie.Need-same-length-21
 same-length-21 c = search needs
@@ -230,8 +237,9 @@ same-length-22 c = search needs
 returns-11 : tie.Need-returns-11
 unfolding step
 returns-11 c =
-    let asked = c .before .before .before .before in
-    rw (asked .call9 .given .1) (c .same .ensures)
+    let called = c .before .before in
+    let asked = called .before .before .before .before in
+    rw (asked .call9 .given .1) (called .raw-write .ensures)
 
 same-length-23 : tie.Need-same-length-23
 same-length-23 c = search needs
@@ -243,7 +251,19 @@ returns-12 : tie.Need-returns-12
 unfolding step
 returns-12 c =
     let asked = c .before .before .before .before in
-    rw (asked .call10 .given .1) (c .inspect .ensures)
+    rw (asked .call10 .given .1) (c .same .ensures)
+
+same-length-25 : tie.Need-same-length-25
+same-length-25 c = search needs
+
+same-length-26 : tie.Need-same-length-26
+same-length-26 c = search needs
+
+returns-13 : tie.Need-returns-13
+unfolding step
+returns-13 c =
+    let asked = c .before .before .before .before in
+    rw (asked .call11 .given .1) (c .inspect .ensures)
 
 pub step-spec : {M : Type 1} → statement M
 step-spec =
@@ -260,18 +280,20 @@ step-spec =
     enum-known-call-3
     set-null-requires
     enum-known-call-4
-    copy-requires
+    set-code-requires
     enum-known-call-5
-    load-requires
+    copy-requires
     enum-known-call-6
-    store-requires
+    load-requires
     enum-known-call-7
-    raw-read-requires
+    store-requires
     enum-known-call-8
-    raw-write-requires
+    raw-read-requires
     enum-known-call-9
-    same-requires
+    raw-write-requires
     enum-known-call-10
+    same-requires
+    enum-known-call-11
     inspect-requires
     same-length
     same-length-2
@@ -308,4 +330,7 @@ step-spec =
     returns-11
     same-length-23
     same-length-24
-    returns-12)
+    returns-12
+    same-length-25
+    same-length-26
+    returns-13)

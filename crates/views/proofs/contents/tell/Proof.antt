@@ -1,24 +1,26 @@
 -- `views::tell` meets its contract: an arm for each sort.
-use Prim.Native.Nat.{ℕ}
 use mathlib.Core.Path.{_≡_, sym, ap, _∙_}
 use lib.IntN.{ℤ}
+use Rattle.model.specs.declared.Answer.{Answer}
 use Rattle.model.specs.declared.Answer.the-variants as Says
-use Rattle.model.specs.Answers.{tells, told}
+use Rattle.model.specs.Answers.{told}
 use Rattle.model.specs.Words.{State, stateOf}
 use Rattle.model.specs.Headers.{tuple}
-use Rattle.views.specs.declared.contents.Sort.the-variants.{Integer, Object}
+use Rattle.numbers.specs.Places.{seenOf}
+use Rattle.views.specs.declared.contents.Sort.the-variants.{Integer, Code, Object}
 use Rattle.views.specs.Sorts.{sortOf}
-use Rattle.views.proofs.Inspecting.{told-by-sort, integer-in-roots, object-in-roots, object-in-heap, object-answer}
+use Rattle.views.proofs.Inspecting.{seen-by-sort, integer-in-roots, code-in-roots, object-in-roots, object-in-heap, object-answer}
 use borrow.Author.Needs.{needs}
 use Rattle.views.proofs.contents.tell.Statement.{statement}
 use Rattle.views.proofs.contents.tell.Tie as tie
 use Rattle.views.proofs.contents.tell.Reads as reads
 use Rattle.views.proofs.contents.tell.Lts as lts
 use Rattle.integers.proofs.untag.Reads as untag-reads
-use Rattle.numbers.proofs.integer.Reads as integer-reads
-use Rattle.numbers.proofs.number.Reads as number-reads
-use Rattle.numbers.proofs.object.Reads as object-reads
-use Rattle.numbers.proofs.tells.Reads as tells-reads
+use Rattle.numbers.proofs.seen.code.Reads as code-reads
+use Rattle.numbers.proofs.seen.integer.Reads as integer-reads
+use Rattle.numbers.proofs.seen.null.Reads as null-reads
+use Rattle.numbers.proofs.seen.object.Reads as object-reads
+use Rattle.numbers.proofs.seen.refused.Reads as refused-reads
 use Rattle.views.proofs.contents.header_of.Reads as header-of-reads
 use Rattle.views.proofs.contents.sort_of.Reads as sort-of-reads
 use Rattle.words.proofs.tuple.Tuple.count_of.Reads as count-of-reads
@@ -35,17 +37,24 @@ start c = c .before .before .before
 abbrev seen-integer : tie.After-enum-told2 → tie.After-sort-of
 seen-integer c = c .before .before
 
-abbrev seen-object : tie.After-enum-told3 → tie.After-sort-of
+abbrev seen-code : tie.After-enum-told3 → tie.After-sort-of
+seen-code c = c .before .before
+
+abbrev seen-object : tie.After-enum-told4 → tie.After-sort-of
 seen-object c = c .before .before
 
--- the sort in the two arms that look at the root's word
+-- the sort in the arms that look at the root's word
 of-integer : (c : tie.After-enum-told2) → let s = start (seen-integer c) in
     Integer ≡ sortOf tuple (s .args .root) (lent s)
 of-integer c = sym (c .enum-told2 .given .1) ∙ seen-integer c .sort-of .ensures
 
-of-object : (c : tie.After-enum-told3) → let s = start (seen-object c) in
+of-code : (c : tie.After-enum-told3) → let s = start (seen-code c) in
+    Code ≡ sortOf tuple (s .args .root) (lent s)
+of-code c = sym (c .enum-told3 .given .1) ∙ seen-code c .sort-of .ensures
+
+of-object : (c : tie.After-enum-told4) → let s = start (seen-object c) in
     Object ≡ sortOf tuple (s .args .root) (lent s)
-of-object c = sym (c .enum-told3 .given .1) ∙ seen-object c .sort-of .ensures
+of-object c = sym (c .enum-told4 .given .1) ∙ seen-object c .sort-of .ensures
 
 sort-of-requires : tie.Need-sort-of-requires
 sort-of-requires c κs = search needs
@@ -53,8 +62,8 @@ sort-of-requires c κs = search needs
 enum-told : tie.Need-enum-told
 enum-told c = search needs
 
-tells-requires : tie.Need-tells-requires
-tells-requires c κs = search needs
+null-requires : tie.Need-null-requires
+null-requires c κs = search needs
 
 enum-told-2 : tie.Need-enum-told-2
 enum-told-2 c = search needs
@@ -73,6 +82,18 @@ integer-requires c κs = search needs
 
 enum-told-3 : tie.Need-enum-told-3
 enum-told-3 c = search needs
+
+mul-code : tie.Need-mul-code
+mul-code c = let l = code-in-roots _ _ _ (of-code c) in search needs
+
+shared-slice-read-code : tie.Need-shared-slice-read-code
+shared-slice-read-code c = code-in-roots _ _ _ (of-code (c .before))
+
+code-requires : tie.Need-code-requires
+code-requires c κs = search needs
+
+enum-told-4 : tie.Need-enum-told-4
+enum-told-4 c = search needs
 
 mul-header-of : tie.Need-mul-header-of
 mul-header-of c = let l = object-in-roots _ _ _ (of-object c) in search needs
@@ -98,42 +119,41 @@ object-requires c κs = search needs
 enum-known-refusal : tie.Need-enum-known-refusal
 enum-known-refusal c = search needs
 
-number-requires : tie.Need-number-requires
-number-requires c κs = search needs
-
-tells-requires-2 : tie.Need-tells-requires-2
-tells-requires-2 c κs = search needs
+refused-requires : tie.Need-refused-requires
+refused-requires c κs = search needs
 
 returns : tie.Need-returns
 returns c =
     let matched = c .before in
-    c .tells .ensures
-    ∙ told-by-sort _ _ _ (sym (matched .enum-told .given .1) ∙ matched .before .before .sort-of .ensures)
+    c .null .ensures
+    ∙ seen-by-sort _ _ _ (sym (matched .enum-told .given .1) ∙ matched .before .before .sort-of .ensures)
 
 returns-2 : tie.Need-returns-2
 returns-2 c =
     let matched = c .before .before .before in
-    c .integer .ensures ∙ ap (λ (v : ℤ). told (Says.Integer v)) (search needs) ∙ told-by-sort _ _ _ (of-integer matched)
+    c .integer .ensures ∙ ap (λ (v : ℤ). seenOf (told (Says.Integer v))) (search needs)
+    ∙ seen-by-sort _ _ _ (of-integer matched)
 
 returns-3 : tie.Need-returns-3
-returns-3 c =
+returns-3 c = c .code .ensures ∙ seen-by-sort _ _ _ (of-code (c .before .before))
+
+returns-4 : tie.Need-returns-4
+returns-4 c =
     let counted = c .before in
     let headed = counted .before .before in
     let matched = headed .before .before in
     let s = start (seen-object matched) in
     c .object .ensures
-    ∙ ap told
+    ∙ ap (λ (a : Answer). seenOf (told a))
     (object-answer tuple (s .args .root) (lent s) _ (headed .header-of .ensures) (counted .before .kind-of .ensures)
     (counted .count-of .ensures .0))
-    ∙ told-by-sort _ _ _ (of-object matched)
+    ∙ seen-by-sort _ _ _ (of-object matched)
 
-returns-4 : tie.Need-returns-4
-returns-4 c =
-    let numbered = c .before in
-    let refused = numbered .before .before in
-    c .tells2 .ensures
-    ∙ ap (λ (k : ℕ). tells k 0 0) (numbered .number .ensures)
-    ∙ told-by-sort _ _ _ (sym (refused .refusal .given .1) ∙ refused .before .before .sort-of .ensures)
+returns-5 : tie.Need-returns-5
+returns-5 c =
+    let refused = c .before .before in
+    c .refused .ensures
+    ∙ seen-by-sort _ _ _ (sym (refused .refusal .given .1) ∙ refused .before .before .sort-of .ensures)
 
 pub tell-spec : {M : Type 1} → statement M
 tell-spec =
@@ -141,13 +161,17 @@ tell-spec =
     (tie.spec
     sort-of-requires
     enum-told
-    tells-requires
+    null-requires
     enum-told-2
     mul-untag
     shared-slice-read-untag
     untag-requires
     integer-requires
     enum-told-3
+    mul-code
+    shared-slice-read-code
+    code-requires
+    enum-told-4
     mul-header-of
     shared-slice-read-header-of
     header-of-requires
@@ -156,9 +180,9 @@ tell-spec =
     cast-object
     object-requires
     enum-known-refusal
-    number-requires
-    tells-requires-2
+    refused-requires
     returns
     returns-2
     returns-3
-    returns-4)
+    returns-4
+    returns-5)
