@@ -6,14 +6,17 @@
 #include <string.h>
 
 #include "../tests/c/codes.h"
+#include "../tests/c/grammar.h"
 #include "../tests/c/heaps.h"
 #include "../tests/c/random.h"
+#include "../tests/c/tuples.h"
 #include "baseline.h"
 #include "contenders.h"
 #include "twins.h"
 
 #define MOST_WORDS 81
 #define MOST_ROOTS 6
+#define MOST_BYTES 120
 
 /* A collector's verdict is the refusal. One that takes the heap to be sound gets only sound ones. */
 static uint32_t sound_bare(struct state *s) { return bare_collect(s), 0; }
@@ -54,7 +57,7 @@ static struct state again(const struct state *s, uint32_t *words, uint32_t *root
 
 static void hold(const struct state *start, int sound, unsigned long heap) {
   static uint32_t words[2][MOST_WORDS], roots[2][MOST_ROOTS];
-  struct call call = {COLLECT, 0, 0, 0, 0, 0, {0, 0, 0}};
+  struct call call = {COLLECT, 0, 0, 0, 0, 0, {0, 0, 0}, NULL};
   struct state expected = again(start, words[0], roots[0]), s;
   uint32_t refusal = model_call(&expected, &call).refusal;
   size_t i;
@@ -105,19 +108,46 @@ static void hold_twins(const struct state *start, unsigned long heap) {
   HOLD_TWIN(phachunoi_answer, word, (h->words, h->word_count, window, field));
 }
 
+/* The writer and its twin, each into bytes of its own: the same answer, and the same bytes left. */
+static void hold_writer(const struct state *start, unsigned long heap) {
+  char ours[MOST_BYTES], theirs[MOST_BYTES];
+  phachunoi_heap h = heap_of(start);
+  size_t root = below(MOST_ROOTS + 1), bytes = below(MOST_BYTES + 1);
+  phachunoi_written one, other;
+  memset(ours, '.', sizeof ours);
+  memset(theirs, '.', sizeof theirs);
+  one = phachunoi_write(PHACHUNOI_LENT(&h), root, ours, bytes);
+  other = twin_write(PHACHUNOI_LENT(&h), root, theirs, bytes);
+  compare(start, start, memcmp(&one, &other, sizeof one) == 0 && memcmp(ours, theirs, sizeof ours) == 0,
+          "the twin of write", heap);
+}
+
+/* The reader and its twin, on a text that is broken now and then. */
+static void hold_reader(const struct state *start, unsigned long heap) {
+  static uint32_t words[2][MOST_WORDS], roots[2][MOST_ROOTS];
+  char text[1000];
+  size_t a = below(MOST_ROOTS + 1), bytes = random_text(text, 300, below(8));
+  if (one_in(20)) bytes = nested_text(text, 55 + below(15));
+  if (one_in(3)) bytes = broken_text(text, bytes);
+  HOLD_TWIN(phachunoi_result, read, (PHACHUNOI_LENT(h), a, text, bytes));
+}
+
 int main(int argc, char **argv) {
   static uint32_t words[MOST_WORDS], roots[MOST_ROOTS];
   unsigned long heaps = argc > 1 ? strtoul(argv[1], NULL, 10) : 1000000, sound = 0, i;
   random_seed(2026);
   for (i = 0; i < heaps && differences < 10; i++) {
-    struct state s = {words, 2 * (size_t)below(40) + 3, roots, below(MOST_ROOTS + 1), 0, 0};
+    struct state s = {words, 2 * (size_t)below(40) + 3, roots, below(MOST_ROOTS + 1), 0, 0, NULL, 0};
     int good;
-    sound_heap(&s);
+    if (one_in(3)) tuple_heap(&s);
+    else sound_heap(&s);
     if (one_in(2)) damage(&s);
     good = model_sound(&s);
     sound += (unsigned long)good;
     hold(&s, good, i);
     hold_twins(&s, i);
+    hold_writer(&s, i);
+    hold_reader(&s, i);
   }
   printf("agree: %lu heaps, %lu of them sound, %lu differences\n", i, sound, differences);
   return differences != 0;

@@ -9,7 +9,9 @@
 /* Roots: a pair of null and the integer 7, that integer, three raw words, null, a code word. */
 enum { PAIR, SEVEN, RAW, NONE, CODE, ROOTS = 8, HALF = 64 };
 
-static void expect(uint32_t refusal) {
+static char text[16];
+
+static void expect(size_t refusal) {
   if (refusal == 0) return;
   fprintf(stderr, "bench: a call that can be done is refused\n");
   exit(2);
@@ -60,6 +62,8 @@ THREE(inspect_integer, inspect(PHACHUNOI_LENT(&h), SEVEN).refusal)
 THREE(inspect_code, inspect(PHACHUNOI_LENT(&h), CODE).refusal)
 THREE(inspect_object, inspect(PHACHUNOI_LENT(&h), RAW).refusal)
 THREE(open, open(PHACHUNOI_LENT(&h), PAIR).refusal)
+THREE(read_integer, read(PHACHUNOI_LENT(&h), SEVEN, "~1073741824", 11).refusal)
+THREE(write_integer, write(PHACHUNOI_LENT(&h), SEVEN, text, sizeof text).refusal)
 
 /* Collect changes the record, and a window has to be opened first. */
 #define COLLECTING(side, collect)                                                                                      \
@@ -96,7 +100,7 @@ static const struct {
     NAMED(set_integer),       NAMED(set_negative), NAMED(set_null),        NAMED(set_code),     NAMED(copy),
     NAMED(allocate_untraced), NAMED(load),         NAMED(store),           NAMED(raw_read),     NAMED(raw_write),
     NAMED(same),              NAMED(inspect_null), NAMED(inspect_integer), NAMED(inspect_code), NAMED(inspect_object),
-    NAMED(open),              NAMED(word),
+    NAMED(open),              NAMED(word),         NAMED(write_integer),   NAMED(read_integer),
 };
 
 int main(int argc, char **argv) {

@@ -24,7 +24,7 @@ static void hold(const struct state *expected, const struct state *start, const 
 /* What the model leaves of a heap, and each contender against it: a check must leave the heap as it was. */
 static void hold_all(const struct state *start, const char *workload) {
   struct state collected = *start;
-  struct call call = {COLLECT, 0, 0, 0, 0, 0, {0, 0, 0}};
+  struct call call = {COLLECT, 0, 0, 0, 0, 0, {0, 0, 0}, NULL};
   size_t i;
   collected.heap = malloc(start->words * sizeof *start->heap);
   collected.roots = malloc((start->root_count + 1) * sizeof *start->roots);

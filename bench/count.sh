@@ -6,7 +6,7 @@ set -eu
 cd "$(dirname "$0")/.."
 made=target/bench
 bench/build.sh count
-for program in collecting calling allocating growth; do
+for program in collecting calling allocating growth writing reading; do
     tools/cc.sh kit-count $made/$program.log $made/count-$program count >$made/$program.said
     python3 bench/table.py --join $made/$program.said $made/$program.log
 done >$made/counts.txt

@@ -8,6 +8,10 @@
 
 #define RARELY(x) __builtin_expect(!!(x), 0)
 
+/* Of two functions that call each other: the one that is cheap in most cases, and the one for the rest. */
+#define IN_PLACE inline __attribute__((always_inline))
+#define APART __attribute__((noinline))
+
 static inline uint32_t count_of(uint32_t header) { return (header & 0x7fffffffu) >> 1; }
 
 #define CODE_FLOOR 16777216u

@@ -13,7 +13,7 @@ rm -f $made/times.*
 order=1
 while [ $order -le "$orders" ]; do
     echo "bench: order $order of $orders" >&2
-    for program in collecting calling allocating growth trees; do
+    for program in collecting calling allocating growth writing reading trees; do
         $made/time-$program.$order "${ROUNDS:-21}"
     done >$made/times.$order
     order=$((order + 1))

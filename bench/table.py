@@ -29,6 +29,7 @@ RATIOS = [
 NOT_COUNTED = {"collect / (b)": ("blocks", "empty")}  # no bar of instructions while a mark is a word
 ALLOCATE = (1.30, 1.25)  # beside (c)
 TWIN = (1.10, 1.15)
+TEXT = (1.25, None)  # a text and its twin, instructions and time
 TREE_NODES = (2**15 - 1) / 40 + 2**13 - 1  # of one tree that is dropped, with its share of the live one
 TREE_LIVE = 3 * (2**15 - 1)  # words
 
@@ -172,6 +173,22 @@ def growth(m):
     print()
 
 
+def texts(m):
+    """Of each text, named with its bytes: instructions a byte, which stay the same if time is linear in the text."""
+    for subject in ["writing", "reading"]:
+        timed = "time: ratio, range, ns a byte" if m.runs else ""
+        print("%-20s%8s%9s%9s%8s   %s" % (subject, "bytes", "twin", "archive", "ratio", timed))
+        for w in workloads_of(m.counts, subject):
+            name, size = w.split("/")
+            twin, archive = (m.counts[subject, w, c] / int(size) for c in ("twin", "archive"))
+            line = "%-20s%8s%9.2f%9.2f%s" % (name, size, twin, archive, cell(archive / twin, TEXT[0]))
+            if m.runs:
+                ratios = ranged(m, subject, w, "archive", "twin", TEXT[1])
+                line += "   %s %6.2f" % (ratios, m.time(subject, w, "archive") / int(size))
+            print(line)
+        print()
+
+
 def contenders_of(m, subject, workload):
     return [c for s, w, c in m.runs[0] if (s, w) == (subject, workload)]
 
@@ -214,6 +231,7 @@ def tables(m):
     calling(m)
     allocating(m)
     growth(m)
+    texts(m)
     if m.runs:
         peers(m)
 

@@ -16,7 +16,7 @@ static inline phachunoi_result resulted(uint32_t refusal, phachunoi_record recor
 
 static inline struct state state_of(uint32_t *heap, size_t word_count, const uint32_t *roots, size_t root_count,
                                     phachunoi_record record) {
-  struct state s = {heap, word_count, (uint32_t *)roots, root_count, record.half, record.free};
+  struct state s = {heap, word_count, (uint32_t *)roots, root_count, record.half, record.free, NULL, 0};
   return s;
 }
 

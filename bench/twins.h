@@ -39,10 +39,15 @@ phachunoi_seen twin_inspect(const uint32_t *heap, size_t word_count, const uint3
 phachunoi_window twin_open(const uint32_t *heap, size_t word_count, const uint32_t *roots, size_t root_count,
                            phachunoi_record record, size_t object);
 phachunoi_answer twin_word(const uint32_t *heap, size_t word_count, phachunoi_window window, size_t field);
+phachunoi_written twin_write(const uint32_t *heap, size_t word_count, const uint32_t *roots, size_t root_count,
+                             phachunoi_record record, size_t root, char *text, size_t bytes);
+phachunoi_result twin_read(uint32_t *heap, size_t word_count, uint32_t *roots, size_t root_count,
+                           phachunoi_record record, size_t to, const char *text, size_t bytes);
 
 #define EACH_CALL(of)                                                                                                \
   of(version) of(fresh) of(check) of(collect) of(allocate_traced) of(allocate_untraced) of(set_integer) of(set_null) \
-  of(set_code) of(copy) of(load) of(store) of(raw_read) of(raw_write) of(same) of(inspect) of(open) of(word)
+  of(set_code) of(copy) of(load) of(store) of(raw_read) of(raw_write) of(same) of(inspect) of(open) of(word)        \
+  of(write) of(read)
 #define NOTHING(call) extern __typeof__(phachunoi_##call) nothing_##call;
 EACH_CALL(NOTHING)
 

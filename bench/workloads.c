@@ -71,6 +71,24 @@ void list_heap(struct state *s, size_t half, uint32_t cells, uint32_t fields) {
   s->roots[0] = rest;
 }
 
+/* Every null field of the objects made. */
+static void number_nulls(struct state *s) {
+  uint32_t i, k, next = 0;
+  for (i = 0; i < object_count; i++)
+    for (k = 1; k <= fields_of(s, objects[i]); k++)
+      if (s->heap[objects[i] + k] == 0) s->heap[objects[i] + k] = 2 * next++ + 1;
+}
+
+void text_tree_heap(struct state *s, size_t half, unsigned depth) {
+  tree_heap(s, half, depth);
+  number_nulls(s);
+}
+
+void text_list_heap(struct state *s, size_t half, uint32_t cells, uint32_t fields) {
+  list_heap(s, half, cells, fields);
+  s->heap[objects[0] + fields] = 4 * object(s, 0, 0);
+}
+
 static void tree16(struct state *s) { tree_heap(s, 524288, 16); }
 
 static void list200k(struct state *s) { list_heap(s, 1048576, 200000, 2); }

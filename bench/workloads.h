@@ -22,4 +22,9 @@ void list_heap(struct state *s, size_t half, uint32_t cells, uint32_t fields);
 /* A full binary tree of two-field nodes in root 0, 2^(depth + 1) - 1 of them. */
 void tree_heap(struct state *s, size_t half, unsigned depth);
 
+/* The same for texts, where null has none: a tree whose leaves hold integers in its place, from 0 up, and a list that
+   ends with an object of no fields. */
+void text_tree_heap(struct state *s, size_t half, unsigned depth);
+void text_list_heap(struct state *s, size_t half, uint32_t cells, uint32_t fields);
+
 #endif

@@ -21,7 +21,7 @@
  *
  * The host's duties. The proof is about calls that are lent what they ask for:
  *   - `heap` points to `word_count` words and `roots` to `root_count` words, aligned, not null (even when empty), not
- *     overlapping, and not touched by anything else during the call;
+ *     overlapping, and not touched by anything else during the call; so does `text`, if any, to `bytes` bytes;
  *   - after each call that returns a record, refused or not, the host keeps that record and passes it to the next call;
  *   - an address, an index or a window is dead after the next call marked "moves objects": keep values in roots.
  * A host that writes heap words or roots itself, or makes up a record, still gets an answer from every call: the one
@@ -45,9 +45,9 @@ extern "C" {
 /* ---- Part 1: limits and numbers ------------------------------------------------------------------------------- */
 
 #define PHACHUNOI_VERSION_MAJOR 0
-#define PHACHUNOI_VERSION_MINOR 3
+#define PHACHUNOI_VERSION_MINOR 4
 #define PHACHUNOI_VERSION_PATCH 0
-#define PHACHUNOI_VERSION_NUMBER 3000 /* major * 1000000 + minor * 1000 + patch */
+#define PHACHUNOI_VERSION_NUMBER 4000 /* major * 1000000 + minor * 1000 + patch */
 
 #define PHACHUNOI_MAX_HALF 1048576u /* words in a half, S */
 #define PHACHUNOI_MAX_ROOTS 65536u
@@ -55,11 +55,14 @@ extern "C" {
 #define PHACHUNOI_INTEGER_MIN (-1073741824)
 #define PHACHUNOI_INTEGER_MAX 1073741823
 #define PHACHUNOI_CODE_FLOOR 16777216u /* every even word from here up is a code word */
+#define PHACHUNOI_MAX_DEPTH 64 /* objects nested in a text; the root's object is the first */
 #define PHACHUNOI_WORDS(S) (2u * (size_t)(S) + 1u) /* words to lend for halves of S */
 
-/* Why a call was refused. The lowest number that applies is given. Refusals 1 to 8 change no word, no root and no
-   record; ROOM leaves them as the collection left them. In a refused answer every number but the refusal and the
-   record is 0. */
+/* Why a call was refused. The numbers are names and no order. Of the refusals that apply, the first in this order is
+   given: SHAPE, ROOT, COUNT, RANGE, OBJECT, KIND, FIELD, VALUE, DEEP, TEXT, DAMAGED, ROOM; a call on a text goes by the
+   place in the text first. Every refusal but ROOM changes no word, no root, no record and no byte; ROOM leaves words,
+   roots and record as the collection left them. In a refused answer every number but the refusal and the record
+   is 0. */
 enum phachunoi_refusal {
   PHACHUNOI_DONE = 0,    /* not refused */
   PHACHUNOI_SHAPE = 1,   /* the heap's length is even, below 3 or above 2,097,153; or more than 65,536 roots; or the
@@ -68,11 +71,15 @@ enum phachunoi_refusal {
   PHACHUNOI_COUNT = 3,   /* more than 1,073,741,823 fields are asked for */
   PHACHUNOI_RANGE = 4,   /* an integer is below -1,073,741,824 or above 1,073,741,823; or a word to be set as a code
                             word is odd or below 16,777,216 */
-  PHACHUNOI_OBJECT = 5,  /* the root that must name an object does not */
+  PHACHUNOI_OBJECT = 5,  /* the root that must name an object does not; or a word to be written is no value */
   PHACHUNOI_KIND = 6,    /* a traced call on an untraced object, or the reverse */
   PHACHUNOI_FIELD = 7,   /* the field number is not below the object's count of fields */
   PHACHUNOI_DAMAGED = 8, /* a collection is called for and the heap is not sound */
-  PHACHUNOI_ROOM = 9     /* after the collection the words needed still do not fit */
+  PHACHUNOI_ROOM = 9,    /* after the collection the words needed still do not fit */
+  PHACHUNOI_VALUE = 10,  /* a value to be written has no text: it is null, a code word or an untraced object; or what
+                            is to be read is no text, or has an integer outside the range above */
+  PHACHUNOI_DEEP = 11,   /* an object would be the 65th nested */
+  PHACHUNOI_TEXT = 12    /* the bytes run out before the text ends */
 };
 
 enum phachunoi_half { PHACHUNOI_A = 0, PHACHUNOI_B = 1 };
@@ -95,7 +102,8 @@ typedef struct phachunoi_record {
   uint32_t free;
 } phachunoi_record;
 
-/* The answer of fresh and allocate, with the record to pass to the next call. `value` is 0: neither names an answer. */
+/* The answer of fresh, allocate and read, with the record to pass to the next call. `value` is 0: none of them names an
+   answer. */
 typedef struct phachunoi_result {
   uint32_t refusal;
   uint32_t value;
@@ -110,7 +118,7 @@ typedef struct phachunoi_collected {
   phachunoi_record record;
 } phachunoi_collected;
 
-/* The answer of every other call but inspect and open. `value` is 0 where a call names no answer. */
+/* The answer of every other call but inspect, open and write. `value` is 0 where a call names no answer. */
 typedef struct phachunoi_answer {
   uint32_t refusal;
   uint32_t value;
@@ -133,8 +141,15 @@ typedef struct phachunoi_window {
   uint32_t count;
 } phachunoi_window;
 
-/* The archive lays these out as written, in entries of 32 bits and of 16, with no gaps; a compiler that does otherwise
-   stops here. */
+/* The answer of write: the bytes of the text, 0 where it is refused. Both have the width of a size, so that there is no
+   gap. */
+typedef struct phachunoi_written {
+  size_t refusal;
+  size_t length;
+} phachunoi_written;
+
+/* The archive lays these out as written, in entries of 64 bits, of 32 and of 16, with no gaps; a compiler that does
+   otherwise stops here. */
 typedef char phachunoi_layout_as_in_the_archive
     [sizeof(phachunoi_record) == 8 && offsetof(phachunoi_record, free) == 4 && sizeof(phachunoi_result) == 16 &&
              offsetof(phachunoi_result, value) == 4 && offsetof(phachunoi_result, record) == 8 &&
@@ -144,16 +159,17 @@ typedef char phachunoi_layout_as_in_the_archive
              offsetof(phachunoi_seen, kind) == 2 && offsetof(phachunoi_seen, integer) == 4 &&
              offsetof(phachunoi_seen, count) == 8 && offsetof(phachunoi_seen, code) == 12 &&
              sizeof(phachunoi_window) == 12 && offsetof(phachunoi_window, first) == 4 &&
-             offsetof(phachunoi_window, count) == 8 && sizeof(size_t) == 8
+             offsetof(phachunoi_window, count) == 8 && sizeof(phachunoi_written) == 16 &&
+             offsetof(phachunoi_written, length) == 8 && sizeof(size_t) == 8
          ? 1
          : -1];
 
 /* ---- Part 3: the calls of the archive (proved) ----------------------------------------------------------------- */
 
 /* Every call but version, fresh and word begins with heap, word_count, roots, root_count, record, and can answer SHAPE.
-   Fresh, collect and allocate return the record to pass to the next call, refused or not. Every other call leaves the
-   record that it was given, and returns none. A call that names no answer says "done"; whether an allocation collected
-   is not told. `to` is a root that is written, `from` and `object` are roots that are read; the same root may be named
+   Fresh, collect, allocate and read return the record to pass to the next call, refused or not. Every other call leaves
+   the record that it was given, and returns none. A call that names no answer says "done"; whether it collected is not
+   told. `to` is a root that is written, `from` and `object` are roots that are read; the same root may be named
    twice. Unless a call is marked as moving objects, every object stays where it is. */
 
 /* The archive's PHACHUNOI_VERSION_NUMBER. A host compares it with the header's. */
@@ -252,6 +268,27 @@ PHACHUNOI_API phachunoi_window phachunoi_open(const uint32_t *heap, size_t word_
 PHACHUNOI_API phachunoi_answer phachunoi_word(const uint32_t *heap, size_t word_count, phachunoi_window window,
                                               size_t field);
 
+/* The value of a root as Standard ML text, in the `bytes` bytes at `text`: an integer is decimal, with ~ for minus; a
+   traced object is () with no fields, {1=v} with one, (v,w) and so on with more. No blanks, and no zero byte behind it.
+   What is shared is written out each time. `length` is the count of the text's bytes; none past it changes. Changes no
+   word and no root. However long the text would be, the call ends where the bytes run out.
+   Refusals: SHAPE, ROOT; then the first fault from the left, and of two at one place the first of: OBJECT (an even
+   word, not 0 and no code word, that names no object), VALUE, DEEP, TEXT. A value's place is where its text would
+   begin. */
+PHACHUNOI_API phachunoi_written phachunoi_write(const uint32_t *heap, size_t word_count, const uint32_t *roots,
+                                                size_t root_count, phachunoi_record record, size_t root, char *text,
+                                                size_t bytes);
+
+/* Root `to` becomes the value of a text, the `bytes` bytes at `text`, which do not change. It reads exactly the texts
+   that write can write. Each tuple becomes a new traced object, in the order in which their texts begin, and needs as
+   many words as it has fields and one more; an integer needs none. If the words are not free it collects first, and all
+   roots count as live then, the old value of `to` too. MAY MOVE OBJECTS.
+   Refusals: SHAPE, ROOT; then the first fault of the text from the left, be it VALUE (a byte, or the end, where no text
+   goes on; a digit that makes an integer too large) or DEEP (the byte that opens the 65th nested tuple); then DAMAGED,
+   ROOM. */
+PHACHUNOI_API phachunoi_result phachunoi_read(uint32_t *heap, size_t word_count, uint32_t *roots, size_t root_count,
+                                              phachunoi_record record, size_t to, const char *text, size_t bytes);
+
 /* ---- Part 4: a heap in one struct (NOT PROVED) ----------------------------------------------------------------- */
 
 /* Everything below is inline C that only keeps the arguments of part 3 together and the record up to date. Each
@@ -276,11 +313,14 @@ static inline const char *phachunoi_refusal_text(uint32_t refusal) {
   case PHACHUNOI_ROOT: return "root: there is no root of that number";
   case PHACHUNOI_COUNT: return "count: more fields than an object can have";
   case PHACHUNOI_RANGE: return "range: the integer is too large or too small, or the word is no code word";
-  case PHACHUNOI_OBJECT: return "object: the root names no object";
+  case PHACHUNOI_OBJECT: return "object: the root names no object, or a word to be written is no value";
   case PHACHUNOI_KIND: return "kind: the object is of the other kind, traced or untraced";
   case PHACHUNOI_FIELD: return "field: the object has no field of that number";
   case PHACHUNOI_DAMAGED: return "damaged: the heap is not sound and cannot be collected";
   case PHACHUNOI_ROOM: return "no room: the words needed do not fit, even after a collection";
+  case PHACHUNOI_VALUE: return "value: what is to be written has no text, or what is to be read is none";
+  case PHACHUNOI_DEEP: return "deep: more objects nested than a text may have";
+  case PHACHUNOI_TEXT: return "text: the bytes run out before the text ends";
   default: return "no refusal has this number";
   }
 }
@@ -392,6 +432,18 @@ static inline enum phachunoi_refusal phachunoi_heap_word(const phachunoi_heap *h
   phachunoi_answer a = phachunoi_word(h->words, h->word_count, window, field);
   *word = a.value;
   return phachunoi_heap_said(a);
+}
+
+static inline enum phachunoi_refusal phachunoi_heap_write(const phachunoi_heap *h, size_t root, char *text,
+                                                          size_t bytes, size_t *length) {
+  phachunoi_written w = phachunoi_write(PHACHUNOI_LENT(h), root, text, bytes);
+  *length = w.length;
+  return (enum phachunoi_refusal)w.refusal;
+}
+
+/* May move objects. */
+static inline enum phachunoi_refusal phachunoi_heap_read(phachunoi_heap *h, size_t to, const char *text, size_t bytes) {
+  return phachunoi_heap_keep(h, phachunoi_read(PHACHUNOI_LENT(h), to, text, bytes));
 }
 
 #ifdef __cplusplus

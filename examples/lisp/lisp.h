@@ -12,7 +12,8 @@
  *     others     traced: field 0 is the type as an integer, the further fields are those named below
  *
  * Files: values.c slots and objects · reader.c text to values · printer.c values to text · eval.c evaluation ·
- * special.c the forms that do not evaluate all arguments · primitives.c the built-in functions · main.c the program.
+ * special.c the forms that do not evaluate all arguments · primitives.c the built-in functions · tuples.c vectors as
+ * Standard ML text · main.c the program.
  */
 #ifndef LISP_H
 #define LISP_H
@@ -89,6 +90,14 @@ enum fault put_byte(struct lisp *l, slot s, size_t i, int byte);
 
 enum fault intern(struct lisp *l, const char *name, size_t length, slot to);
 
+/* A tuple is a traced object without a type, as texts of Standard ML have them. It is no value of Lisp: only tuples.c
+   holds some, and makes vectors of them. */
+int is_tuple(struct lisp *l, slot s); /* of a slot that holds a tuple or an integer */
+size_t tuple_count(struct lisp *l, slot s);
+enum fault make_tuple(struct lisp *l, size_t fields, slot to); /* fields are null */
+enum fault read_tuple(struct lisp *l, const char *text, size_t bytes, slot to);
+enum fault write_tuple(struct lisp *l, slot s, char *text, size_t bytes, size_t *length);
+
 /* ---- the other files ---- */
 
 enum fault read_value(struct lisp *l, slot to);
@@ -104,6 +113,8 @@ enum fault define(struct lisp *l, slot symbol, slot value);
 enum fault sequence(struct lisp *l, slot form, slot env, slot to, int *again);
 enum fault special_form(struct lisp *l, int64_t number, slot form, slot env, slot to, int *again);
 enum fault call_primitive(struct lisp *l, int64_t number, slot arguments, slot to);
+enum fault text_to_vector(struct lisp *l, slot string, slot to); /* of Standard ML: a tuple becomes a vector */
+enum fault vector_to_text(struct lisp *l, slot value, slot to);
 const char *special_name(int64_t number);   /* NULL past the last */
 const char *primitive_name(int64_t number); /* NULL past the last */
 

@@ -165,6 +165,12 @@ static enum fault do_vector_length(struct lisp *l, slot a, slot to) {
   return set_integer(l, to, (int64_t)field_count(l, a));
 }
 
+/* ---- texts of Standard ML ---- */
+
+static enum fault do_sml_to_vector(struct lisp *l, slot a, slot to) { return text_to_vector(l, a, to); }
+
+static enum fault do_vector_to_sml(struct lisp *l, slot a, slot to) { return vector_to_text(l, a, to); }
+
 /* ---- output ---- */
 
 static enum fault do_display(struct lisp *l, slot a, slot to) {
@@ -209,6 +215,8 @@ static const struct {
              {"vector-ref", 2, do_vector_ref},
              {"vector-set!", 3, do_vector_set},
              {"vector-length", 1, do_vector_length},
+             {"sml->vector", 1, do_sml_to_vector},
+             {"vector->sml", 1, do_vector_to_sml},
              {"display", 1, do_display},
              {"print", 1, do_print}};
 

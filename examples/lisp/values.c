@@ -12,6 +12,9 @@ static enum fault fault_of(enum phachunoi_refusal refusal) {
   case PHACHUNOI_OBJECT:
   case PHACHUNOI_KIND:
   case PHACHUNOI_FIELD: return WRONG_TYPE;
+  case PHACHUNOI_VALUE: return BAD_TEXT;
+  case PHACHUNOI_DEEP:
+  case PHACHUNOI_TEXT: return OUT_OF_RANGE;
   default: return BROKEN; /* SHAPE, ROOT, DAMAGED: a mistake in this program */
   }
 }
@@ -172,6 +175,25 @@ enum fault put_byte(struct lisp *l, slot s, size_t i, int byte) {
   TRY(fault_of(phachunoi_heap_raw_read(&l->heap, s, 1 + i / 4, &word)));
   word = (word & ~((uint32_t)255 << shift)) | (uint32_t)(byte & 255) << shift;
   return fault_of(phachunoi_heap_raw_write(&l->heap, s, 1 + i / 4, word));
+}
+
+/* ---- tuples ---- */
+
+int is_tuple(struct lisp *l, slot s) { return phachunoi_heap_inspect(&l->heap, s).kind == PHACHUNOI_TRACED; }
+
+size_t tuple_count(struct lisp *l, slot s) { return phachunoi_heap_inspect(&l->heap, s).count; }
+
+enum fault make_tuple(struct lisp *l, size_t fields, slot to) { return allocate(l, 1, fields, to); }
+
+enum fault read_tuple(struct lisp *l, const char *text, size_t bytes, slot to) {
+  uint32_t half = l->heap.record.half;
+  enum phachunoi_refusal refusal = phachunoi_heap_read(&l->heap, to, text, bytes);
+  l->collections += half != l->heap.record.half;
+  return fault_of(refusal);
+}
+
+enum fault write_tuple(struct lisp *l, slot s, char *text, size_t bytes, size_t *length) {
+  return fault_of(phachunoi_heap_write(&l->heap, s, text, bytes, length));
 }
 
 /* ---- symbols: one object for each name, in a list that hangs on the slot SYMBOLS ---- */

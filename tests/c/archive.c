@@ -4,31 +4,38 @@
 #define LENT(s) (s)->heap, (s)->words, (s)->roots, (s)->root_count, record
 
 static struct said kept(struct state *s, phachunoi_result r) {
-  struct said said = {r.refusal, r.value, 0, 0, 0, 0, 0};
+  struct said said = {r.refusal, r.value, 0, 0, 0, 0, 0, 0};
   s->half = r.record.half;
   s->free = r.record.free;
   return said;
 }
 
 static struct said collected(struct state *s, phachunoi_collected r) {
-  struct said said = {r.refusal, r.live, 0, 0, 0, 0, 0};
+  struct said said = {r.refusal, r.live, 0, 0, 0, 0, 0, 0};
   s->half = r.record.half;
   s->free = r.record.free;
   return said;
 }
 
 static struct said answered(phachunoi_answer a) {
-  struct said said = {a.refusal, a.value, 0, 0, 0, 0, 0};
+  struct said said = {a.refusal, a.value, 0, 0, 0, 0, 0, 0};
   return said;
 }
 
 static struct said seen(phachunoi_seen a) {
-  struct said said = {a.refusal, 0, a.kind, a.integer, a.count, 0, a.code};
+  struct said said = {a.refusal, 0, a.kind, a.integer, a.count, 0, a.code, 0};
   return said;
 }
 
 static struct said opened(phachunoi_window a) {
-  struct said said = {a.refusal, 0, 0, 0, a.count, a.first, 0};
+  struct said said = {a.refusal, 0, 0, 0, a.count, a.first, 0, 0};
+  return said;
+}
+
+static struct said written(phachunoi_written a) {
+  struct said said = {(uint32_t)a.refusal, 0, 0, 0, 0, 0, 0, 0};
+  said.length = a.length;
+  if (a.refusal > 12) said.refusal = 77; /* one that is no refusal shows, in its upper half too */
   return said;
 }
 
@@ -38,7 +45,7 @@ static phachunoi_window window_of(const struct call *c) {
 }
 
 static struct said plain_call(struct state *s, const struct call *c) {
-  struct said nothing = {0, 0, 0, 0, 0, 0, 0};
+  struct said nothing = {0, 0, 0, 0, 0, 0, 0, 0};
   phachunoi_record record = {s->half, s->free};
   switch (c->op) {
   case FRESH: return kept(s, phachunoi_fresh(s->heap, s->words, record));
@@ -58,13 +65,15 @@ static struct said plain_call(struct state *s, const struct call *c) {
   case INSPECT: return seen(phachunoi_inspect(LENT(s), c->a));
   case OPEN: return opened(phachunoi_open(LENT(s), c->a));
   case WORD: return answered(phachunoi_word(s->heap, s->words, window_of(c), c->b));
+  case WRITE: return written(phachunoi_write(LENT(s), c->a, s->text, s->bytes));
+  case READ: return kept(s, phachunoi_read(LENT(s), c->a, s->text, s->bytes));
   case OPS: break;
   }
   return nothing;
 }
 
 /* The calls that only answer a refusal. */
-static uint32_t struct_refusal(phachunoi_heap *h, const struct call *c) {
+static uint32_t struct_refusal(phachunoi_heap *h, const struct state *s, const struct call *c) {
   switch (c->op) {
   case NEW_TRACED: return phachunoi_heap_allocate_traced(h, c->b, c->a);
   case NEW_UNTRACED: return phachunoi_heap_allocate_untraced(h, c->b, c->a);
@@ -74,12 +83,19 @@ static uint32_t struct_refusal(phachunoi_heap *h, const struct call *c) {
   case COPY: return phachunoi_heap_copy(h, c->a, c->c);
   case LOAD: return phachunoi_heap_load(h, c->a, c->b, c->c);
   case STORE: return phachunoi_heap_store(h, c->a, c->b, c->c);
+  case READ: return phachunoi_heap_read(h, c->a, s->text, s->bytes);
   default: return phachunoi_heap_raw_write(h, c->a, c->b, c->number);
   }
 }
 
-static struct said struct_answer(phachunoi_heap *h, const struct call *c) {
-  struct said said = {0, 77, 0, 0, 0, 0, 0}; /* 77: an answer that is not written shows */
+static struct said struct_write(const phachunoi_heap *h, const struct state *s, size_t root) {
+  struct said said = {0, 0, 0, 0, 0, 0, 0, 77};
+  said.refusal = phachunoi_heap_write(h, root, s->text, s->bytes, &said.length);
+  return said;
+}
+
+static struct said struct_answer(phachunoi_heap *h, const struct state *s, const struct call *c) {
+  struct said said = {0, 77, 0, 0, 0, 0, 0, 0}; /* 77: an answer that is not written shows */
   int yes = 77;
   switch (c->op) {
   case CHECK: said.refusal = phachunoi_heap_check(h, &yes); break;
@@ -89,7 +105,8 @@ static struct said struct_answer(phachunoi_heap *h, const struct call *c) {
   case WORD: return said.refusal = phachunoi_heap_word(h, window_of(c), c->b, &said.value), said;
   case INSPECT: return seen(phachunoi_heap_inspect(h, c->a));
   case OPEN: return opened(phachunoi_heap_open(h, c->a));
-  default: return said.refusal = struct_refusal(h, c), said.value = 0, said;
+  case WRITE: return struct_write(h, s, c->a);
+  default: return said.refusal = struct_refusal(h, s, c), said.value = 0, said;
   }
   said.value = (uint32_t)yes;
   return said;
@@ -111,7 +128,7 @@ struct said archive_call(struct state *s, const struct call *c, int through_stru
   phachunoi_heap h;
   if (!through_struct || c->op == FRESH) return plain_call(s, c); /* the struct's `begin` clears the roots too */
   h = heap_of(s);
-  said = struct_answer(&h, c);
+  said = struct_answer(&h, s, c);
   s->half = h.record.half;
   s->free = h.record.free;
   return said;

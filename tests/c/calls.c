@@ -4,7 +4,9 @@
 #include <string.h>
 
 #include "codes.h"
+#include "grammar.h"
 #include "random.h"
+#include "texts.h"
 
 struct call call_of(enum op op, size_t a, size_t b, size_t c) {
   struct call call;
@@ -13,6 +15,7 @@ struct call call_of(enum op op, size_t a, size_t b, size_t c) {
   call.a = a;
   call.b = b;
   call.c = c;
+  call.text = "";
   return call;
 }
 
@@ -25,6 +28,12 @@ struct call set_integer_of(size_t to, int64_t value) {
 struct call set_code_of(size_t to, uint32_t word) {
   struct call call = call_of(SET_CODE, to, 0, 0);
   call.number = word;
+  return call;
+}
+
+struct call read_of(size_t to, const char *text, size_t bytes) {
+  struct call call = call_of(READ, to, bytes, 0);
+  call.text = text;
   return call;
 }
 
@@ -114,8 +123,50 @@ static void random_window(const struct state *s, struct call *c) {
   if (one_in(50)) c->b = far_off(c->b);
 }
 
+/* None; a few; around where the text of a root ends or has its first fault; more than enough for most. */
+static size_t bytes_for(const struct state *s, size_t root) {
+  size_t end = text_of_root(s, root, 600).at;
+  switch (below(8)) {
+  case 0: return below(3);
+  case 1: return below(12);
+  case 2: return end == 0 ? 0 : below((uint32_t)end);
+  case 3: return end + 1 + below(300);
+  case 4: return end == 0 ? 0 : end - 1;
+  case 5: return end + 1;
+  default: return end;
+  }
+}
+
+struct call write_call(const struct state *s) {
+  struct call c = call_of(WRITE, root_number(s), 0, 0);
+  c.b = bytes_for(s, c.a);
+  return c;
+}
+
+/* Fields of a flat tuple whose words are about those free, or about a half. */
+static uint32_t fields_that_fit(const struct state *s) {
+  uint32_t size = half_of(s), end = (s->half == 0 ? 1 : size + 1) + size, free = end > s->free ? end - s->free : 0;
+  uint32_t words = one_in(2) ? free + below(3) : size + below(3);
+  return words < 2 ? 0 : words > 600 ? 600 : words - 2;
+}
+
+struct call read_call(const struct state *s) {
+  static char text[2000];
+  size_t bytes;
+  switch (below(8)) {
+  case 0: bytes = nested_text(text, 58 + below(10)); break;
+  case 1: bytes = random_text(text, 0, 0); break;
+  case 2: bytes = random_text(text, 1900, below(half_of(s) + 1)); break;
+  case 3:
+  case 4: bytes = flat_text(text, fields_that_fit(s)); break;
+  default: bytes = random_text(text, 300, 1 + below(6));
+  }
+  if (one_in(4)) bytes = broken_text(text, bytes);
+  return read_of(root_number(s), text, bytes);
+}
+
 static enum op random_op(void) {
-  static const uint8_t weights[OPS] = {1, 4, 4, 40, 16, 12, 4, 12, 12, 24, 32, 12, 12, 8, 12, 8, 8};
+  static const uint8_t weights[OPS] = {1, 4, 4, 40, 16, 12, 4, 12, 12, 24, 32, 12, 12, 8, 12, 8, 8, 20, 24};
   uint32_t left, op = 0, total = 0;
   for (op = 0; op < OPS; op++) total += weights[op];
   left = below(total);
@@ -133,5 +184,5 @@ struct call random_call(const struct state *s) {
   if (c.op == SET_INTEGER) c.integer = integer();
   c.number = c.op == SET_CODE ? asked_code() : (uint32_t)random_bits();
   if (c.op == WORD) random_window(s, &c);
-  return c;
+  return c.op == WRITE ? write_call(s) : c.op == READ ? read_call(s) : c;
 }

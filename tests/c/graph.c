@@ -4,6 +4,8 @@
 #include <stdlib.h>
 #include <string.h>
 
+#include "lent.h"
+
 enum { NIL, NUMBER, CODE, NODE }; /* what a value is */
 
 struct value {
@@ -65,18 +67,24 @@ uint32_t graph_live(void) {
 
 /* ---- the calls ---- */
 
-static uint32_t new_node(size_t to, size_t n, int untraced) {
-  if (to >= root_count) return 2;
-  if (n > 1073741823) return 3;
-  if (limit != GRAPH_NO_LIMIT && (uint64_t)graph_live() + n + 1 > limit) return 9;
+static int no_room(uint64_t words) { return limit != GRAPH_NO_LIMIT && graph_live() + words > limit; }
+
+static struct value node(size_t n, int untraced) {
+  struct value made = {NODE, (int64_t)node_count};
   if (node_count == NODES || cell_count + n > CELLS) abort(); /* a list too long for this file */
   nodes[node_count].untraced = untraced;
   nodes[node_count].count = (uint32_t)n;
-  nodes[node_count].first = cell_count;
+  nodes[node_count++].first = cell_count;
   memset(cells + cell_count, 0, n * sizeof cells[0]);
   cell_count += n;
-  roots[to].what = NODE;
-  roots[to].is = (int64_t)node_count++;
+  return made;
+}
+
+static uint32_t new_node(size_t to, size_t n, int untraced) {
+  if (to >= root_count) return 2;
+  if (n > 1073741823) return 3;
+  if (no_room((uint64_t)n + 1)) return 9;
+  roots[to] = node(n, untraced);
   return 0;
 }
 
@@ -127,8 +135,63 @@ static uint32_t two_roots(const struct call *c, uint32_t *value) {
   return 0;
 }
 
+/* ---- texts: values are told by pointers to them ---- */
+
+static char bytes_left[LONGEST_TEXT], tried[LONGEST_TEXT];
+
+const char *graph_bytes(void) { return bytes_left; }
+
+static struct looked_at look(const void *in, const void *value) {
+  const struct value *v = value;
+  struct looked_at seen_as = {NO_TEXT, 0, 0};
+  (void)in;
+  if (v->what == NUMBER) return seen_as.sort = WHOLE_NUMBER, seen_as.number = v->is, seen_as;
+  if (v->what != NODE || nodes[v->is].untraced) return seen_as;
+  return seen_as.sort = TUPLE, seen_as.fields = nodes[v->is].count, seen_as;
+}
+
+static const void *field(const void *in, const void *value, uint32_t number) {
+  const struct value *v = value;
+  (void)in;
+  return &cells[nodes[v->is].first + number];
+}
+
+static uint32_t write_root(size_t root, size_t bytes, size_t *length) {
+  static const struct values values = {look, field};
+  struct text_end end;
+  fill_bytes(bytes_left, bytes);
+  if (root >= root_count) return 2;
+  end = write_text(&values, NULL, &roots[root], tried, bytes);
+  if (end.refusal != 0) return end.refusal;
+  memcpy(bytes_left, tried, end.at);
+  *length = end.at;
+  return 0;
+}
+
+static struct value value_of(const struct looked_at **next) {
+  const struct looked_at *v = (*next)++;
+  struct value value = {NUMBER, v->number};
+  uint32_t k;
+  if (v->sort == WHOLE_NUMBER) return value;
+  value = node(v->fields, 0);
+  for (k = 0; k < v->fields; k++) cells[nodes[value.is].first + k] = value_of(next);
+  return value;
+}
+
+static uint32_t read_root(size_t to, const char *text, size_t bytes) {
+  struct text_read read;
+  if (to >= root_count) return 2;
+  read = read_text(text, bytes);
+  if (read.refusal != 0) return read.refusal;
+  if (no_room(read.words)) return 9;
+  roots[to] = value_of(&read.values);
+  return 0;
+}
+
+/* ---- all calls ---- */
+
 struct said graph_holds(size_t root) {
-  struct said r = {0, 0, 0, 0, 0, 0, 0};
+  struct said r = {0, 0, 0, 0, 0, 0, 0, 0};
   if (root >= root_count) return r.refusal = 2, r;
   if (roots[root].what == NUMBER) return r.kind = 1, r.integer = (int32_t)roots[root].is, r;
   if (roots[root].what == CODE) return r.kind = 4, r.code = (uint32_t)roots[root].is, r;
@@ -139,7 +202,7 @@ struct said graph_holds(size_t root) {
 }
 
 struct said graph_call(const struct call *c) {
-  struct said r = {0, 0, 0, 0, 0, 0, 0};
+  struct said r = {0, 0, 0, 0, 0, 0, 0, 0};
   switch (c->op) {
   case CHECK: r.value = 1; break;
   case COLLECT: r.value = graph_live(); break;
@@ -155,6 +218,8 @@ struct said graph_call(const struct call *c) {
   case RAW_READ:
   case RAW_WRITE: r.refusal = field_call(c, &r.value); break;
   case INSPECT: return graph_holds(c->a);
+  case WRITE: r.refusal = write_root(c->a, c->b, &r.length); break;
+  case READ: r.refusal = read_root(c->a, c->text, c->b); break;
   default: abort(); /* fresh and the window are no session calls */
   }
   return r;

@@ -14,14 +14,15 @@ void judge_lend(size_t words, size_t root_count);
 struct state *judged(void);
 void judge_settle(void);
 
-/* The call on both sides. Compared: every answer, word, root, both record entries and the guards. */
+/* The call on both sides. Compared: every answer, word, root, both record entries, the bytes lent for a text and the
+   guards. */
 struct said judge_call(const struct call *c);
 
 /* A further check, with a line that says what is wrong if it fails. */
 void expect(int ok, const char *wrong);
 
 /* The last lines of the run: the smallest case that differed, if any, and the totals. Returns the exit status. Each
-   refusal of code words must have been met `least` times. */
+   refusal of code words and of texts must have been met `least` times. */
 int judge_verdict(uint64_t seed, uint64_t least);
 
 uint64_t judge_calls(void);

@@ -44,6 +44,24 @@ int guards_hold(const struct lent *l) {
   return guards_of(l->s.heap, l->s.words) && guards_of(l->s.roots, l->s.root_count);
 }
 
+void fill_bytes(char *text, size_t bytes) {
+  size_t i;
+  for (i = 0; i < bytes; i++) text[i] = (char)(0x80 | (i * 37 & 0x7f));
+}
+
+void lend_bytes(struct lent *l, const struct call *c) {
+  l->s.bytes = c->op == WRITE || c->op == READ ? c->b : 0;
+  l->s.text = l->text_block + GUARDS;
+  memset(l->text_block, '(', GUARDS);
+  if (c->op == READ) memcpy(l->s.text, c->text, c->b);
+  else fill_bytes(l->s.text, l->s.bytes);
+  memset(l->s.text + l->s.bytes, '(', GUARDS);
+}
+
+int bytes_equal(const struct lent *a, const struct lent *b) {
+  return a->s.bytes == b->s.bytes && memcmp(a->text_block, b->text_block, a->s.bytes + 2 * GUARDS) == 0;
+}
+
 int states_equal(const struct state *a, const struct state *b) {
   return a->half == b->half && a->free == b->free && memcmp(a->heap, b->heap, a->words * sizeof a->heap[0]) == 0 &&
          memcmp(a->roots, b->roots, a->root_count * sizeof a->roots[0]) == 0;

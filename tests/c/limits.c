@@ -12,7 +12,7 @@ static uint32_t refusal_of(enum op op, size_t a, size_t b, size_t c) {
 /* Every call that can say SHAPE says it, or none does. The heap is empty and roots, if any, are null. */
 static void shape_is(int bad, const char *wrong) {
   static const enum op ops[] = {CHECK, COLLECT, SET_NULL, COPY, SAME, INSPECT, OPEN, LOAD, STORE, RAW_READ, RAW_WRITE,
-                                NEW_TRACED, NEW_UNTRACED, SET_INTEGER, SET_CODE};
+                                NEW_TRACED, NEW_UNTRACED, SET_INTEGER, SET_CODE, WRITE, READ};
   struct state *s = judged(), was = *s;
   size_t i;
   for (i = 0; i < sizeof ops / sizeof ops[0]; i++) {

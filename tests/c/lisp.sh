@@ -56,6 +56,7 @@ program sieve 2300 1500
 program strings 1800 1000
 program mutual 1800 1300
 program cycles 2300 1400
+program tuples 1800 1200
 fault "wrong type" "(car 5)"
 fault "wrong type" "(string-length '(1))"
 fault "wrong type" "(car car)"
@@ -65,6 +66,9 @@ fault "wrong count" "((lambda (x) x) 1 2)"
 fault "out of range" "(* 1073741823 2)"
 fault "out of range" "(vector-ref (make-vector 3 0) 3)"
 fault "bad text" "(print (1 2)"
+fault "bad text" "(sml->vector \"(1, 2)\")"
+fault "wrong type" "(vector->sml '(1 2))"
+fault "out of range" "(define v (make-vector 1 0)) (vector-set! v 0 v) (vector->sml v)"
 echo "(define (down n) (if (= n 0) 0 (+ 1 (down (- n 1))))) (down 100000)" >target/c/fault.lisp
 tools/cc.sh run "$lisp" 1048576 target/c/fault.lisp >$printed 2>$said
 grep -q "^lisp: stack full, .* heap sound\$" $said || complain "deep recursion: $(cat $said)"

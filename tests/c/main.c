@@ -16,10 +16,13 @@ int main(int argc, char **argv) {
   printf("check-c: seed %" PRIu64 "\n", seed);
   random_seed(seed);
   worked_heaps();
+  worked_texts();
   each_refusal();
   struct_begin();
   limits();
   bit_flips();
+  writing();
+  reading((uint32_t)(calls / 500) + 100);
   sessions((uint32_t)(calls / 20000) + 2);
   random_trials(calls);
   long_sessions(calls / 10);

@@ -1,44 +1,13 @@
-/* The model of documents 01 and 02: words and objects, soundness, collection, then the calls one by one. */
+/* The model of documents 01 and 02: soundness, collection, then the calls one by one. */
 #include "model.h"
 
 #include <string.h>
 
-enum { SHAPE = 1, ROOT, COUNT, RANGE, OBJECT, KIND, FIELD, DAMAGED, ROOM };
-
-#define LONGEST 2097153u
-#define MOST_FIELDS 1073741823u
-
-/* ---- words and objects ---- */
-
-static uint32_t half_size(const struct state *s) { return (uint32_t)((s->words - 1) / 2); }
-
-static uint32_t first_word(const struct state *s, uint32_t half) { return half == 0 ? 1 : half_size(s) + 1; }
-
-static uint32_t fields_of(uint32_t header) { return (header & 0x7fffffffu) >> 1; }
-
-static int untraced(uint32_t header) { return (header >> 31) != 0; }
+#include "texts.h"
+#include "words.h"
 
 /* "Every even word from 16,777,216 up is a code word." */
 int model_is_code(uint32_t word) { return word % 2 == 0 && word >= 16777216; }
-
-/* Integers, null and code words, which a collection neither follows nor changes. */
-static int plain(uint32_t word) { return word % 2 == 1 || word == 0 || model_is_code(word); }
-
-static int bad_length(size_t words) { return words % 2 == 0 || words < 3 || words > LONGEST; }
-
-static int bad_shape(const struct state *s) {
-  if (bad_length(s->words) || s->root_count > 65536 || s->half > 1) return 1;
-  return s->free < first_word(s, s->half) || s->free > first_word(s, s->half) + half_size(s);
-}
-
-/* "A word names an object when .." */
-static int names(const struct state *s, uint32_t word) {
-  uint32_t index = word / 4;
-  if (word % 2 != 0 || word == 0 || word % 4 != 0) return 0;
-  if (index < first_word(s, s->half) || index >= s->free) return 0;
-  if (s->heap[index] % 2 != 0) return 0;
-  return (uint64_t)index + fields_of(s->heap[index]) + 1 <= s->free;
-}
 
 /* ---- soundness ---- */
 
@@ -163,23 +132,53 @@ static uint32_t collect(struct state *s, uint32_t *live) {
   return 0;
 }
 
-static int fits(const struct state *s, size_t n) {
-  return (uint64_t)s->free + n + 1 <= (uint64_t)first_word(s, s->half) + half_size(s);
+static int fits(const struct state *s, uint64_t words) {
+  return s->free + words <= (uint64_t)first_word(s, s->half) + half_size(s);
+}
+
+/* Words are free, or a collection makes them so. All roots count as live in it. */
+static uint32_t make_room(struct state *s, uint64_t words) {
+  if (fits(s, words)) return 0;
+  if (!model_sound(s)) return DAMAGED;
+  collect_sound(s);
+  return fits(s, words) ? 0 : ROOM;
 }
 
 static uint32_t allocate(struct state *s, size_t n, size_t to, uint32_t kind_bit) {
+  uint32_t refusal;
   if (bad_shape(s)) return SHAPE;
   if (to >= s->root_count) return ROOT;
   if (n > MOST_FIELDS) return COUNT;
-  if (!fits(s, n)) {
-    if (!model_sound(s)) return DAMAGED;
-    collect_sound(s);
-  }
-  if (!fits(s, n)) return ROOM;
+  refusal = make_room(s, (uint64_t)n + 1);
+  if (refusal != 0) return refusal;
   s->heap[s->free] = (kind_bit << 31) | (uint32_t)(2 * n);
   memset(s->heap + s->free + 1, 0, n * sizeof s->heap[0]);
   s->roots[to] = 4 * s->free;
   s->free += (uint32_t)n + 1;
+  return 0;
+}
+
+/* "objects in the order their texts begin": all words of one, then its fields in turn, each with all below it. */
+static uint32_t place_value(struct state *s, const struct looked_at **next) {
+  const struct looked_at *v = (*next)++;
+  uint32_t at = s->free, k;
+  if (v->sort == WHOLE_NUMBER) return (uint32_t)(2 * v->number + 1);
+  s->heap[at] = 2 * v->fields;
+  s->free += v->fields + 1;
+  for (k = 1; k <= v->fields; k++) s->heap[at + k] = place_value(s, next);
+  return 4 * at;
+}
+
+static uint32_t read_root(struct state *s, size_t to) {
+  struct text_read text;
+  uint32_t refusal;
+  if (bad_shape(s)) return SHAPE;
+  if (to >= s->root_count) return ROOT;
+  text = read_text(s->text, s->bytes);
+  if (text.refusal != 0) return text.refusal;
+  refusal = make_room(s, text.words);
+  if (refusal != 0) return refusal;
+  s->roots[to] = place_value(s, &text.values);
   return 0;
 }
 
@@ -233,14 +232,8 @@ static uint32_t same(const struct state *s, size_t one, size_t other, uint32_t *
   return 0;
 }
 
-/* 2v + 1 back to v, by the value and not by the bits. */
-static int32_t integer_of(uint32_t word) {
-  int64_t twice = word < 0x80000000u ? (int64_t)word : (int64_t)word - 4294967296;
-  return (int32_t)((twice - 1) / 2);
-}
-
 static struct said inspect(const struct state *s, size_t root) {
-  struct said r = {0, 0, 0, 0, 0, 0, 0};
+  struct said r = {0, 0, 0, 0, 0, 0, 0, 0};
   uint32_t word;
   if (bad_shape(s)) return r.refusal = SHAPE, r;
   if (root >= s->root_count) return r.refusal = ROOT, r;
@@ -255,7 +248,7 @@ static struct said inspect(const struct state *s, size_t root) {
 }
 
 static struct said open_window(const struct state *s, size_t object) {
-  struct said r = {0, 0, 0, 0, 0, 0, 0};
+  struct said r = {0, 0, 0, 0, 0, 0, 0, 0};
   if (bad_shape(s)) return r.refusal = SHAPE, r;
   if (object >= s->root_count) return r.refusal = ROOT, r;
   if (!names(s, s->roots[object])) return r.refusal = OBJECT, r;
@@ -284,7 +277,7 @@ static uint32_t field_call(struct state *s, const struct call *c, uint32_t *valu
 }
 
 struct said model_call(struct state *s, const struct call *c) {
-  struct said r = {0, 0, 0, 0, 0, 0, 0};
+  struct said r = {0, 0, 0, 0, 0, 0, 0, 0};
   switch (c->op) {
   case FRESH: r.refusal = fresh(s); break;
   case CHECK:
@@ -306,6 +299,8 @@ struct said model_call(struct state *s, const struct call *c) {
   case INSPECT: return inspect(s, c->a);
   case OPEN: return open_window(s, c->a);
   case WORD: r.refusal = word_of(s, c->window, c->b, &r.value); break;
+  case WRITE: r.refusal = model_write(s, c->a, &r.length); break;
+  case READ: r.refusal = read_root(s, c->a); break;
   case OPS: break;
   }
   return r;

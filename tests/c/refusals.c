@@ -46,7 +46,13 @@ static const struct provoked good_heap[] = {
     {PHACHUNOI_FIELD, LOAD, 1, 2, 0},          {PHACHUNOI_FIELD, LOAD, 0, 0, 0},
     {PHACHUNOI_FIELD, STORE, 1, 2, 0},         {PHACHUNOI_FIELD, RAW_READ, 2, 1, 0},
     {PHACHUNOI_FIELD, RAW_WRITE, 2, 1, 0},     {PHACHUNOI_FIELD, WORD, 0, 0, 0},
-    {PHACHUNOI_ROOM, NEW_TRACED, 0, 2, 0},     {PHACHUNOI_ROOM, NEW_UNTRACED, 0, 1073741823, 0}};
+    {PHACHUNOI_ROOM, NEW_TRACED, 0, 2, 0},     {PHACHUNOI_ROOM, NEW_UNTRACED, 0, 1073741823, 0},
+    {PHACHUNOI_ROOT, WRITE, 4, 0, 0},          {PHACHUNOI_ROOT, WRITE, 4, 100, 0},
+    {PHACHUNOI_VALUE, WRITE, 2, 0, 0},         {PHACHUNOI_VALUE, WRITE, 2, 100, 0},
+    {PHACHUNOI_DEEP, WRITE, 1, 64, 0},         {PHACHUNOI_DEEP, WRITE, 1, 100, 0},
+    {PHACHUNOI_TEXT, WRITE, 1, 63, 0},         {PHACHUNOI_TEXT, WRITE, 0, 1, 0},
+    {PHACHUNOI_TEXT, WRITE, 3, 0, 0},          {PHACHUNOI_ROOT, READ, 4, 0, 0},
+    {PHACHUNOI_VALUE, READ, 0, 0, 0}};
 
 static void provoke(const struct provoked *p) {
   struct call c = call_of(p->op, p->a, p->b, p->c);
@@ -69,12 +75,13 @@ static void shape_and_damage(void) {
                                               {PHACHUNOI_DAMAGED, NEW_TRACED, 0, 2, 0},
                                               {PHACHUNOI_DAMAGED, NEW_UNTRACED, 0, 1073741823, 0},
                                               {PHACHUNOI_DONE, LOAD, 1, 1, 0},
+                                              {PHACHUNOI_DEEP, WRITE, 1, 100, 0},
                                               {PHACHUNOI_DONE, CHECK, 0, 0, 0}};
     size_t k;
     p5_and_text();
     judged()->heap[i] = 8;
     judge_settle();
-    for (k = 0; k < 5; k++) provoke(&damaged[k]);
+    for (k = 0; k < sizeof damaged / sizeof damaged[0]; k++) provoke(&damaged[k]);
   }
 }
 
@@ -87,10 +94,11 @@ static void integers(void) {
 }
 
 /* What names no object is OBJECT to every call on one: root 3 holds a code word, then the word two below the lowest, of
-   which inspect has nothing to tell either. */
+   which inspect has nothing to tell and write nothing to write either. */
 static void code_words(void) {
   static const uint32_t words[] = {16777216, 16777218, 4294967294, 16777214};
   static const struct provoked inspect = {PHACHUNOI_OBJECT, INSPECT, 3, 0, 0};
+  static const struct provoked write = {PHACHUNOI_OBJECT, WRITE, 3, 0, 0};
   size_t i, k;
   for (k = 0; k < 4; k++) {
     p5_and_text();
@@ -100,14 +108,15 @@ static void code_words(void) {
       if (good_heap[i].refusal == PHACHUNOI_OBJECT) provoke(&good_heap[i]);
   }
   provoke(&inspect);
+  provoke(&write);
 }
 
 static void texts(void) {
   uint32_t a, b;
-  for (a = 0; a < 10; a++)
+  for (a = 0; a < 13; a++)
     for (b = 0; b <= a; b++)
       expect((a == b) == (strcmp(phachunoi_refusal_text(a), phachunoi_refusal_text(b)) == 0), "texts of two refusals");
-  expect(strcmp(phachunoi_refusal_text(10), phachunoi_refusal_text(99)) == 0, "text of no refusal");
+  expect(strcmp(phachunoi_refusal_text(13), phachunoi_refusal_text(99)) == 0, "text of no refusal");
 }
 
 void each_refusal(void) {

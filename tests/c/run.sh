@@ -84,6 +84,7 @@ installed() {
 headers
 example tuple "the smallest embedding"
 example closure "closures with code words"
+example text "a value as text"
 sample
 pictures
 installed

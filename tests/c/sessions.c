@@ -4,6 +4,7 @@
 
 #include "calls.h"
 #include "codes.h"
+#include "grammar.h"
 #include "graph.h"
 #include "judge.h"
 #include "parts.h"
@@ -11,9 +12,12 @@
 
 #define LONGEST_LIST 160
 #define LARGE 4000
+#define MOST_BYTES 200 /* lent for a text */
 
 static struct call list[LONGEST_LIST];
-static struct said unlimited[LONGEST_LIST]; /* the graph's answers with no limit */
+static struct said unlimited[LONGEST_LIST]; /* the graph's answers with no limit, and the bytes that it leaves */
+static char unlimited_bytes[LONGEST_LIST][MOST_BYTES];
+static char texts[LONGEST_LIST][MOST_BYTES]; /* what its calls read */
 static uint32_t length;
 static size_t root_count;
 
@@ -30,14 +34,21 @@ static size_t object_root(int raw) {
 }
 
 static enum op session_op(void) {
-  static const enum op ops[] = {NEW_TRACED, NEW_TRACED, NEW_TRACED, NEW_UNTRACED, STORE,    STORE,       STORE,   LOAD,
-                                LOAD,       RAW_WRITE,  RAW_READ,   COPY,         SET_NULL, SET_INTEGER, INSPECT, SAME,
-                                COLLECT,    CHECK,      INSPECT,    LOAD,         SET_CODE, SET_CODE};
+  static const enum op ops[] = {NEW_TRACED, NEW_TRACED, NEW_TRACED, NEW_UNTRACED, STORE,   STORE,    STORE,
+                                LOAD,       LOAD,       RAW_WRITE,  RAW_READ,     COPY,    SET_NULL, SET_INTEGER,
+                                INSPECT,    SAME,       COLLECT,    CHECK,        INSPECT, LOAD,     SET_CODE,
+                                SET_CODE,   WRITE,      WRITE,      READ,         READ};
   return ops[below(sizeof ops / sizeof ops[0])];
 }
 
-/* One call in twenty names a bad root, kind or field: refusals are answers too. */
-static struct call session_call(void) {
+static void read_some(struct call *c, char *text) {
+  c->text = text;
+  c->b = random_text(text, MOST_BYTES - 1, below(8));
+  if (one_in(6)) c->b = broken_text(text, c->b);
+}
+
+/* One call in twenty names a bad root, kind or field: refusals are answers too. `text` is kept for what it reads. */
+static struct call session_call(char *text) {
   struct call c = call_of(session_op(), below((uint32_t)root_count), below(5), below((uint32_t)root_count));
   int raw = c.op == RAW_READ || c.op == RAW_WRITE;
   if (c.op == LOAD || c.op == STORE || raw) {
@@ -48,6 +59,8 @@ static struct call session_call(void) {
   c.number = c.op == SET_CODE ? asked_code() : (uint32_t)random_bits();
   if (one_in(20)) c.a = below((uint32_t)root_count + 2);
   if (one_in(20)) c.b = one_in(2) && c.op != LOAD ? 1073741824 : below(8);
+  if (c.op == WRITE) c.b = one_in(2) ? below(MOST_BYTES) : below(20);
+  if (c.op == READ) read_some(&c, text);
   return c;
 }
 
@@ -57,8 +70,9 @@ static void make_list(void) {
   length = 20 + below(LONGEST_LIST - 20);
   graph_start(root_count, GRAPH_NO_LIMIT);
   for (i = 0; i < length; i++) {
-    list[i] = session_call();
+    list[i] = session_call(texts[i]);
     unlimited[i] = graph_call(&list[i]);
+    memcpy(unlimited_bytes[i], graph_bytes(), MOST_BYTES);
   }
 }
 
@@ -73,6 +87,11 @@ static void begin(uint32_t half) {
   graph_start(root_count, half);
 }
 
+/* The answer to a call and the bytes that it leaves are those of a graph. */
+static int as_graph(const struct call *c, struct said said, struct said graph_said, const char *bytes) {
+  return said_equal(said, graph_said) && (c->op != WRITE || memcmp(judged()->text, bytes, c->b) == 0);
+}
+
 /* Every answer is the graph's at this size, and until the first "no room" the unlimited graph's. Returns if it came. */
 static int run_at(uint32_t half, int collect_between) {
   struct call collect = call_of(COLLECT, 0, 0, 0);
@@ -81,9 +100,9 @@ static int run_at(uint32_t half, int collect_between) {
   begin(half);
   for (i = 0; i < length; i++) {
     struct said said = judge_call(&list[i]);
-    expect(said_equal(said, graph_call(&list[i])), "an answer is not the graph's at this size");
+    expect(as_graph(&list[i], said, graph_call(&list[i]), graph_bytes()), "an answer is not the graph's at this size");
     no_room |= said.refusal == 9;
-    if (!no_room) expect(said_equal(said, unlimited[i]), "an answer differs with the size");
+    if (!no_room) expect(as_graph(&list[i], said, unlimited[i], unlimited_bytes[i]), "an answer differs with the size");
     if (collect_between) expect(judge_call(&collect).value == graph_live(), "live words of a collection between");
   }
   return no_room;

@@ -9,9 +9,9 @@
 #include "phachunoi_show.h"
 
 static const char *const op_names[OPS] = {
-    "fresh",    "check", "collect", "allocate_traced", "allocate_untraced", "set_integer", "set_null",
-    "set_code", "copy",  "load",    "store",           "raw_read",          "raw_write",   "same",
-    "inspect",  "open",  "word"};
+    "fresh", "check", "collect", "allocate_traced", "allocate_untraced", "set_integer", "set_null", "set_code",
+    "copy",  "load",  "store",   "raw_read",        "raw_write",         "same",        "inspect",  "open",
+    "word",  "write", "read"};
 
 /* Of exactly the size lent, so that a build with a checker of addresses sees every step beside it. */
 static uint32_t *copy_of(const uint32_t *run, size_t n) {
@@ -69,13 +69,14 @@ void show_call(const struct call *c) {
   printf("  call    %s a %zu b %zu c %zu integer %" PRId64 " number %" PRIx32, op_names[c->op], c->a, c->b, c->c,
          c->integer, c->number);
   printf(" window %" PRIu32 " %" PRIu32 " %" PRIu32 "\n", c->window[0], c->window[1], c->window[2]);
+  if (c->op == READ) printf("  text    %.*s\n", c->b < 200 ? (int)c->b : 200, c->text);
 }
 
 void show_said(const char *label, struct said said, const struct state *after) {
   printf("  %s refusal %" PRIu32 " value %" PRIx32 " kind %" PRIu32 " integer %" PRId32 " count %" PRIu32
-         " first %" PRIu32 " code %" PRIx32 "; half %" PRIu32 " free %" PRIu32 "\n",
-         label, said.refusal, said.value, said.kind, said.integer, said.count, said.first, said.code, after->half,
-         after->free);
+         " first %" PRIu32 " code %" PRIx32 " length %zu; half %" PRIu32 " free %" PRIu32 "\n",
+         label, said.refusal, said.value, said.kind, said.integer, said.count, said.first, said.code, said.length,
+         after->half, after->free);
 }
 
 static void show_difference(const char *what, const uint32_t *model, const uint32_t *archive, size_t n) {
@@ -87,4 +88,12 @@ static void show_difference(const char *what, const uint32_t *model, const uint3
 void show_first_difference(const struct state *model, const struct state *archive) {
   show_difference("word", model->heap, archive->heap, model->words);
   show_difference("root", model->roots, archive->roots, model->root_count);
+}
+
+void show_bytes(const struct lent *model, const struct lent *archive) {
+  ptrdiff_t i = -(ptrdiff_t)GUARDS, end = (ptrdiff_t)(model->s.bytes + GUARDS);
+  while (i < end && model->s.text[i] == archive->s.text[i]) i++;
+  if (i == end) return;
+  printf("  byte %td of %zu: model %x, archive %x\n", i, model->s.bytes, (unsigned char)model->s.text[i],
+         (unsigned char)archive->s.text[i]);
 }

@@ -4,7 +4,7 @@
 
 #include <stdio.h>
 
-#include "model.h"
+#include "lent.h"
 #include "phachunoi.h"
 
 #define LONGEST_SHOWN 16777216u
@@ -20,5 +20,6 @@ void show_state(const char *label, const struct state *s);
 void show_call(const struct call *c);
 void show_said(const char *label, struct said said, const struct state *after);
 void show_first_difference(const struct state *model, const struct state *archive);
+void show_bytes(const struct lent *model, const struct lent *archive); /* what differs of a text lent */
 
 #endif

@@ -5,6 +5,7 @@
 #include "parts.h"
 #include "random.h"
 #include "samples.h"
+#include "tuples.h"
 
 static uint32_t some_size(void) {
   switch (below(5)) {
@@ -25,6 +26,13 @@ static void badly_shaped(void) {
   noise(judged());
 }
 
+static void lend_tuples(void) {
+  uint32_t size = one_in(4) ? some_size() : 100 + below(300);
+  judge_lend(2 * (size_t)size + 1, some_roots());
+  tuple_heap(judged());
+  if (one_in(6)) damage(judged());
+}
+
 void lend_some_heap(void) {
   uint32_t kind = below(16);
   if (kind == 0) {
@@ -37,12 +45,23 @@ void lend_some_heap(void) {
   if (kind > 12) damage(judged());
 }
 
+/* Texts are asked for at once, before other calls have cut the values short. */
+static void write_some(void) {
+  uint32_t i, n = 10 + below(20);
+  for (i = 0; i < n; i++) {
+    struct call c = write_call(judged());
+    judge_call(&c);
+  }
+}
+
 /* Half of the trials are never disturbed, so that sessions grow old on sound heaps. */
 static void trial(void) {
   uint32_t i, n = 20 + below(100);
-  int disturbed = one_in(2);
-  lend_some_heap();
+  int disturbed = one_in(2), tuples = one_in(4);
+  if (tuples) lend_tuples();
+  else lend_some_heap();
   judge_settle();
+  if (tuples) write_some();
   for (i = 0; i < n; i++) {
     struct call c = random_call(judged());
     judge_call(&c);

@@ -1,3 +1,1 @@
-pub mod Among
-pub mod Left
 pub mod AllocateCases

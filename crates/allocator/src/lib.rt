@@ -1,35 +1,18 @@
 // Allocate: place the object if it fits; if not, collect first and try once more.
 ghost use mathlib.Core.Path.{_≡_};
-ghost use mathlib.Core.Bool.{true};
 ghost use Prim.Native.Nat.{_≤_, _<_};
 ghost use lib.ListN.{length};
-ghost use Rattle.model.specs.declared.Answer.the-variants as Says;
 ghost use Rattle.model.specs.Limits.{maxFields};
-ghost use Rattle.model.specs.Words.{stateOf};
 ghost use Rattle.model.specs.Headers as Layouts;
-ghost use Rattle.model.specs.Soundness.{sound};
-ghost use Rattle.model.specs.Answers.{says};
-ghost use Rattle.model.specs.Contracts.{lent, leaves, outcome};
+ghost use Rattle.model.specs.Contracts.{lent, outcome};
 ghost use Rattle.model.specs.Calls as Calls;
-ghost use Rattle.allocator.specs.Retrying.{collection, retried};
-use engine::Collected;
+ghost use Rattle.allocator.specs.Retrying.{retried};
 use model::Answer;
 use model::Answered;
 use model::Kind;
 use model::Record;
 use model::Refusal;
 use model::say;
-
-// Collects a sound heap. The first `count` roots count as live: all of them, also the one that an allocation
-// is for.
-fn collect_among(heap: &mut [u32], roots: &mut [u32], count: usize, record: Record) -> Collected
-    requires { ⌜ (count ≡ length (now roots))
-        × (sound Layouts.tuple (stateOf (now heap) (now roots) «record») ≡ true) ⌝ }
-    ensures { λ r. ⌜ says (Says.Live (r .live)) (leaves heap roots (r .«record»))
-        ≡ collection Layouts.tuple (lent heap roots «record») ⌝ }
-{
-    engine::collect_sound(heap, &mut roots[..count], record)
-}
 
 // After a collection: done, DAMAGED with nothing changed, or ROOM with the heap collected.
 fn retry(
@@ -46,7 +29,7 @@ fn retry(
 {
     if checker::is_sound(heap, roots, record) {
         let all = roots.len();
-        let done = collect_among(heap, roots, all, record);
+        let done = engine::collect_among(heap, roots, all, record);
         let after = done.record;
         if fields < placing::spare_of(heap.len(), after) {
             let placed = placing::place(heap, roots, after, kind, fields, to);

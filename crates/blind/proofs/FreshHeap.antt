@@ -6,12 +6,12 @@ use mathlib.Core.Bool.{false}
 use mathlib.Core.List.{List}
 use lib.ListN.{length, replicate, length-replicate, getD-replicate}
 use lib.Seq.{ext-getD}
-use Rattle.model.specs.declared.Half.the-variants.{A}
 use Rattle.model.specs.declared.Answer.the-variants as Says
-use Rattle.model.specs.Words.{State, stateOf}
+use Rattle.model.specs.Words.{State, withHeap, withRecord}
 use Rattle.model.specs.Shape.{badLength}
 use Rattle.model.specs.Answers.{says}
 use Rattle.model.specs.Calls as Calls
+use Rattle.model.specs.Calls.{freshRecord}
 use Rattle.runs.specs.Runs.{cleared}
 use Rattle.runs.proofs.RunLaws.{cleared-length, cleared-inside}
 use Rattle.model.proofs.Refusing.{passes}
@@ -24,6 +24,6 @@ cleared-all h =
 
 pub fresh-done : (s : State) (h : List ℕ) → badLength (length (s .heap)) ≡ false
     → h ≡ cleared (s .heap) 0 (length (s .heap))
-    → says Says.Done (stateOf h (s .roots) (record { half = A; free = record { 0 = 1 } })) ≡ Calls.fresh s
+    → says Says.Done (withRecord freshRecord (withHeap h s)) ≡ Calls.fresh s
 unfolding Calls.fresh
 fresh-done s h b e = passes _ _ b (rw (e, cleared-all (s .heap)))

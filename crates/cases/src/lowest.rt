@@ -1,4 +1,4 @@
-// EachCall::lowest: the lowest number that applies is given. S = 8.
+// EachCall::lowest: the lowest rank that applies is given. S = 8.
 use super::calls;
 use super::root_calls;
 use super::run;

@@ -1,4 +1,5 @@
 // A case: its start, its calls through `step`, and its line.
+use model::Answered;
 use model::Call;
 use model::Half;
 use model::Index;
@@ -26,12 +27,25 @@ pub fn name(name: &[u8]) {
     show::text(b":");
 }
 
-// A call, its answer printed; the record for the next.
-pub fn ask(heap: &mut [u32], roots: &mut [u32], record: Record, call: Call) -> Record {
-    let done = step(heap, roots, record, call);
+// A call that is lent bytes, its answer printed.
+fn answered(
+    heap: &mut [u32],
+    roots: &mut [u32],
+    record: Record,
+    call: Call,
+    text: &mut [u8],
+) -> Answered {
+    let done = step(heap, roots, record, call, text);
     let answer = done.answer;
     show::text(b" ");
     show::told(told(answer));
+    done
+}
+
+// A call that is lent none; the record for the next.
+pub fn ask(heap: &mut [u32], roots: &mut [u32], record: Record, call: Call) -> Record {
+    let mut none: [u8; 0] = [];
+    let done = answered(heap, roots, record, call, &mut none);
     done.record
 }
 
@@ -55,6 +69,30 @@ fn left(heap: &[u32], roots: &[u32], record: Record) {
     show::text(b"; roots");
     show::run(roots);
     show::text(b"\n");
+}
+
+fn bytes(text: &[u8]) {
+    show::text(b" \"");
+    show::text(text);
+    show::text(b"\"");
+}
+
+// A line of one call that is lent bytes, all of them after its answer: a write, with their number in the text, and
+// a read.
+pub fn write(heap: &mut [u32], roots: &mut [u32], record: Record, root: usize, text: &mut [u8]) {
+    let done = answered(heap, roots, record, Call::Write { root }, text);
+    let answer = done.answer;
+    let numbers = told(answer);
+    show::text(b" length ");
+    show::length(numbers.length);
+    bytes(text);
+    left(heap, roots, done.record);
+}
+
+pub fn read(heap: &mut [u32], roots: &mut [u32], record: Record, to: usize, text: &mut [u8]) {
+    let done = answered(heap, roots, record, Call::Read { to }, text);
+    bytes(text);
+    left(heap, roots, done.record);
 }
 
 // The last calls of a line.

@@ -5,8 +5,10 @@ use mathlib.Core.Path.{_≡_, refl, sym, ap, _∙_}
 use mathlib.Core.Bool.{Bool, true, false, cond, _||_}
 use mathlib.Core.List.{List}
 use lib.Dec.{leb, eqb}
+use lib.IntN.{pos}
 use lib.ListN.{length}
 use Rattle.model.specs.declared.Refusal.the-variants as Why
+use Rattle.model.specs.declared.Answer.{Answer}
 use Rattle.model.specs.declared.Call.{Call}
 use Rattle.model.specs.declared.Call.the-variants as Ask
 use Rattle.model.specs.declared.Place.{Place}
@@ -18,25 +20,31 @@ use Rattle.model.specs.Answers.{told}
 use Rattle.model.specs.Calls.{fresh}
 use Rattle.model.specs.Sessions.{step}
 use Rattle.model.proofs.PlainAnswers.{no-zero}
-use Rattle.model.proofs.Telling.{heard, numbers-apart, read-back, fresh-back, number-back, apart-by-two, told-apart}
+use Rattle.model.proofs.Telling.{heard, numbers-apart, read-back, fresh-back, number-back, apart-by-two}
 use Rattle.numbers.specs.Places.{holdsCode}
 use Rattle.crossing.specs.declared.CSeen.{CSeen}
+use Rattle.crossing.specs.declared.CWritten.{CWritten}
 use Rattle.crossing.specs.declared.CWindow.{CWindow}
-use Rattle.crossing.specs.Numbers.{seenOf, windowOf, wordAt}
+use Rattle.crossing.specs.Numbers.{seenOf, writtenOf, windowOf, wordAt}
 use Rattle.crossing.specs.Laws as Law
 
-collect-inspect : (r : ℕ) → Ask.Collect ≡ Ask.Inspect r → ⊥
-collect-inspect r e = let z : _≡_ {A = ℕ} 0 1 = cc in omega arith
+collect-simple : Law.Simple Ask.Collect
+collect-simple = (λ r e. let z : _≡_ {A = ℕ} 0 1 = cc in omega arith, λ r e. let z : _≡_ {A = ℕ} 0 1 = cc in omega arith)
 
-null-inspect : (r : ℕ) → Ask.SetNull 0 ≡ Ask.Inspect r → ⊥
-null-inspect r e = let z : _≡_ {A = ℕ} 0 1 = cc in omega arith
+null-simple : Law.Simple (Ask.SetNull 0)
+null-simple = (λ r e. let z : _≡_ {A = ℕ} 0 1 = cc in omega arith, λ r e. let z : _≡_ {A = ℕ} 0 1 = cc in omega arith)
 
-read-inspect : (r : ℕ) → Ask.RawRead 0 0 ≡ Ask.Inspect r → ⊥
-read-inspect r e = let z : _≡_ {A = ℕ} 0 1 = cc in omega arith
+read-simple : Law.Simple (Ask.RawRead 0 0)
+read-simple = (λ r e. let z : _≡_ {A = ℕ} 0 1 = cc in omega arith, λ r e. let z : _≡_ {A = ℕ} 0 1 = cc in omega arith)
 
-told-same : (t t′ : Told) → t .refusal ≡ t′ .refusal → t .holds ≡ t′ .holds → t .integer ≡ t′ .integer
-    → t .value ≡ t′ .value → t ≡ t′
-told-same t t′ a b c d = λ i. record { refusal = a i; holds = b i; integer = c i; value = d i }
+-- by a struct of its own, from which the call's answer is heard as from all its numbers
+by-struct : {Z : Type 0} (Y : Layout) (c : Call) (s s′ : State) (struct : Told → Z) (hears : Z → Answer)
+    → ((t : Told) → hears (struct t) ≡ heard c t)
+    → struct (told (step Y c s .answer)) ≡ struct (told (step Y c s′ .answer)) → step Y c s .answer ≡ step Y c s′ .answer
+by-struct Y c s s′ struct hears same e =
+    let a = step Y c s .answer in
+    let b = step Y c s′ .answer in
+    sym (read-back Y s c) ∙ sym (same (told a)) ∙ ap hears e ∙ same (told b) ∙ read-back Y s′ c
 
 -- the value of an inspect, from the place that it has
 abbrev seenValue : CSeen → ℕ
@@ -48,6 +56,12 @@ seen-value t = go (eqb (t .holds) holdsCode)
     go : (b : Bool) → cond b (cond b (t .value) 0) (cond b 0 (t .value)) ≡ t .value
     go true = refl
     go false = refl
+
+abbrev seenTold : CSeen → ℕ → Told
+seenTold z v = record { refusal = z .refusal; holds = z .kind; integer = z .integer; value = v; length = 0 }
+
+abbrev writtenTold : CWritten → Told
+writtenTold z = record { refusal = z .refusal; holds = 0; integer = pos 0; value = 0; length = z .length }
 
 window-apart : (p p′ : Place) → windowOf p ≡ windowOf p′ → p ≡ p′
 window-apart (Place.Object i n) (Place.Object j m) e =
@@ -62,8 +76,8 @@ word-back : (H : List ℕ) (w : CWindow) (f : ℕ) → heard (Ask.RawRead 0 0) (
 unfolding wordAt
 word-back H w f = number-back (leb (w .count) f || leb (length H) (w .first + f)) Why.Field (at H (w .first + f))
 
--- by refusal and value alone, where the call is no inspect
-by-two : (Y : Layout) (c : Call) (s s′ : State) → ((r : ℕ) → c ≡ Ask.Inspect r → ⊥)
+-- by refusal and value alone
+by-two : (Y : Layout) (c : Call) (s s′ : State) → Law.Simple c
     → told (step Y c s .answer) .refusal ≡ told (step Y c s′ .answer) .refusal
     → told (step Y c s .answer) .value ≡ told (step Y c s′ .answer) .value → step Y c s .answer ≡ step Y c s′ .answer
 by-two Y c s s′ n = apart-by-two c (step Y c s .answer) (step Y c s′ .answer) n (read-back Y s c) (read-back Y s′ c)
@@ -72,16 +86,17 @@ pub answers-apart : (Y : Layout) → Law.AnswersApart Y
 answers-apart Y = record {
   inResult = λ c s s′ q q′ n e. by-two Y c s s′ n (ap (λ z. z .refusal) e) (ap (λ z. z .value) e);
   inAnswer = λ c s s′ n e. by-two Y c s s′ n (ap (λ z. z .refusal) e) (ap (λ z. z .value) e);
-  inCollected = λ s s′ q q′ e. by-two Y Ask.Collect s s′ collect-inspect (ap (λ z. z .refusal) e) (ap (λ z. z .live) e);
+  inCollected = λ s s′ q q′ e. by-two Y Ask.Collect s s′ collect-simple (ap (λ z. z .refusal) e) (ap (λ z. z .live) e);
   inSeen = λ r s s′ e.
-      told-apart Y .session (Ask.Inspect r) s s′
-      (told-same _ _ (ap (λ z. z .refusal) e) (ap (λ z. z .kind) e) (ap (λ z. z .integer) e)
-      (sym (seen-value (told (step Y (Ask.Inspect r) s .answer))) ∙ ap seenValue e ∙ seen-value (told (step Y (Ask.Inspect r) s′ .answer))));
+      by-struct Y (Ask.Inspect r) s s′ seenOf (λ z. heard (Ask.Inspect r) (seenTold z (seenValue z)))
+      (λ t. ap (λ v. heard (Ask.Inspect r) (seenTold (seenOf t) v)) (seen-value t)) e;
+  inWritten = λ r s s′ e.
+      by-struct Y (Ask.Write r) s s′ writtenOf (λ z. heard (Ask.Write r) (writtenTold z)) (λ t. refl) e;
   inFresh = λ s s′ q q′ e.
-      apart-by-two (Ask.SetNull 0) (fresh s .answer) (fresh s′ .answer) null-inspect (fresh-back s) (fresh-back s′)
+      apart-by-two (Ask.SetNull 0) (fresh s .answer) (fresh s′ .answer) null-simple (fresh-back s) (fresh-back s′)
       (ap (λ z. z .refusal) e) (ap (λ z. z .value) e);
   inWord = λ H H′ w w′ f f′ e.
-      apart-by-two (Ask.RawRead 0 0) (wordAt H w f) (wordAt H′ w′ f′) read-inspect (word-back H w f) (word-back H′ w′ f′)
+      apart-by-two (Ask.RawRead 0 0) (wordAt H w f) (wordAt H′ w′ f′) read-simple (word-back H w f) (word-back H′ w′ f′)
       (ap (λ z. z .refusal) e) (ap (λ z. z .value) e);
   inWindow = window-apart;
 }

@@ -6,6 +6,7 @@ use mathlib.Core.Bool.{true, false, not}
 use lib.ListN.{length}
 use borrow.Author.Tests.{leb-true, not-false}
 use Rattle.model.specs.declared.Kind.{Kind}
+use Rattle.model.specs.declared.Kind.the-variants.{Traced}
 use Rattle.model.specs.declared.Call.{Call}
 use Rattle.model.specs.Words.{State, free}
 use Rattle.model.specs.Headers.{Layout}
@@ -13,13 +14,15 @@ use Rattle.model.specs.Shape.{badShape}
 use Rattle.model.specs.Soundness.{sound}
 use Rattle.model.specs.Collection.{collected}
 use Rattle.model.specs.Objects.{index, names}
-use Rattle.model.specs.Changes.{noRoot, rootWord, spare, fits, placed}
+use Rattle.model.specs.Changes.{noRoot, rootWord, spare, fits, placed, planted}
+use Rattle.model.specs.Trees.{Tree, leaf, node, count, treeWords}
 use Rattle.model.specs.Window.{window}
 use Rattle.model.specs.Sessions.{step}
 use Rattle.model.proofs.Tests.{cond-holds}
 use Rattle.model.proofs.Shape.{Shaped, shaped, first-in}
 use Rattle.model.proofs.Soundness.{sound-parts}
 use Rattle.model.proofs.CollectedSound.{new-shape}
+use Rattle.model.proofs.Laying.{laid-lays}
 use Rattle.model.proofs.Leaving.{step-left}
 use Rattle.naming.proofs.NamedObjects.{header-below}
 use Rattle.crossing.specs.Crossing.{Narrow, NarrowPlace}
@@ -28,12 +31,21 @@ use Rattle.crossing.specs.Crossing.{Narrow, NarrowPlace}
 shaped-narrow : (s : State) → Shaped s → Narrow (free s)
 shaped-narrow s h = let f = first-in s h in omega (arith, h .high, h .odd, h .small)
 
-placed-narrow : (Y : Layout) (s : State) (k : Kind) (n r : ℕ) → Shaped s → fits n s ≡ true
+placed-narrow : (Y : Layout) (s : State) (k : Kind) (n r : ℕ) → Shaped s → fits (n + 1) s ≡ true
     → Narrow (free (placed Y k n r s))
 unfolding placed
 placed-narrow Y s k n r h e =
     let f = first-in s h in
     let l : n + 1 ≤ spare s = leb-true (n + 1) (spare s) e in
+    omega (arith, h .high, h .odd, h .small)
+
+planted-narrow : (Y : Layout) (s : State) (t : Tree) (r : ℕ) → Shaped s → treeWords t ≤ spare s
+    → Narrow (free (planted Y t r s))
+unfolding planted placed
+planted-narrow Y s (leaf v) r h l = shaped-narrow s h
+planted-narrow Y s (node g) r h l =
+    let f = first-in s h in
+    let e = laid-lays Y g (free s + 1) (placed Y Traced (count g) r s) .freeIs in
     omega (arith, h .high, h .odd, h .small)
 
 module _ (Y : Layout) (s : State) (n : Narrow (free s)) where
@@ -49,11 +61,14 @@ module _ (Y : Layout) (s : State) (n : Narrow (free s)) where
       copied = λ from to l. n;
       loaded = λ r f to g. n;
       stored = λ r f from g l. n;
-      written = λ r f x g. n;
+      rawWritten = λ r f x g. n;
+      textWritten = λ r bs l. n;
     };
     placedNow = λ k m r a l e. placed-narrow Y s k m r (shaped s a) e;
     collectedNow = λ c e. shaped-narrow (collected Y s) (collected-shape e);
     placedThen = λ k m r e l f. placed-narrow Y (collected Y s) k m r (collected-shape e) f;
+    plantedNow = λ t r a e l. planted-narrow Y s t r (shaped s a) l;
+    plantedThen = λ t r e p l. planted-narrow Y (collected Y s) t r (collected-shape e) l;
   })
 
 -- where a window stands

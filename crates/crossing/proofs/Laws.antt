@@ -18,9 +18,13 @@ use Rattle.crossing.specs.Numbers.{Given, givenOf, noHalf, numbersOf, re
 use Rattle.crossing.specs.Laws as Law
 
 pub settles : Law.Settles
-settles T g a b H H′ R R′ e f =
-    let x : givenOf a H R ≡ givenOf b H′ R′ = e ∙ sym f in
-    (ap (λ (z : Given T). z .returned) x, ap (λ (z : Given T). z .heap) x, ap (λ (z : Given T). z .roots) x)
+settles T g a b H H′ R R′ t t′ e f =
+    let x : givenOf a H R t ≡ givenOf b H′ R′ t′ = e ∙ sym f in (
+      ap (λ (z : Given T). z .returned) x,
+      ap (λ (z : Given T). z .heap) x,
+      ap (λ (z : Given T). z .roots) x,
+      ap (λ (z : Given T). z .text) x,
+    )
 
 record-half : (h : Half) (i : Index) → noHalf (numbersOf (record { half = h; free = i })) ≡ false
 record-half A i = refl

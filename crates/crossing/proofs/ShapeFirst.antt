@@ -40,7 +40,7 @@ refused next e = rw e
 module _ (Y : Layout) (s : State) (bad : badShape s ≡ true) where
   pub shape-first : (k : Call) → step Y k s ≡ says (Says.Refused Why.Shape) s
   unfolding step Calls.collect Calls.check Calls.allocate Calls.setInteger Calls.setNull Calls.setCode Calls.copy Calls.load
-      Calls.store Calls.rawRead Calls.rawWrite Calls.same Calls.inspect
+      Calls.store Calls.rawRead Calls.rawWrite Calls.same Calls.inspect Calls.write Calls.read
   shape-first Ask.Collect = refused _ bad
   shape-first Ask.Check = refused _ bad
   shape-first (Ask.Allocate k n r) = refused _ bad
@@ -54,6 +54,8 @@ module _ (Y : Layout) (s : State) (bad : badShape s ≡ true) where
   shape-first (Ask.RawWrite r f n) = refused _ bad
   shape-first (Ask.Same p q) = refused _ bad
   shape-first (Ask.Inspect r) = refused _ bad
+  shape-first (Ask.Write r) = refused _ bad
+  shape-first (Ask.Read r) = refused _ bad
 
   pub window-shape : (r : ℕ) → window Y r s ≡ Place.Refused Why.Shape
   unfolding window

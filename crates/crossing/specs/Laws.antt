@@ -16,12 +16,12 @@ use Rattle.model.specs.Sessions.{step}
 use Rattle.crossing.specs.declared.CRecord.{CRecord}
 use Rattle.crossing.specs.declared.CWindow.{CWindow}
 use Rattle.crossing.specs.Numbers.{Given, givenOf, noHalf, numbersOf, recordOf, resultOf, collectedOf, answerOf}
-use Rattle.crossing.specs.Numbers.{seenOf, windowOf, wordAt}
+use Rattle.crossing.specs.Numbers.{seenOf, writtenOf, windowOf, wordAt}
 
 -- a promise is an equation `given .. ≡ g`: any two outcomes that it allows are equal
 abbrev pub Settles : Type 1
-Settles = (T : Type 0) (g : Given T) (a b : T) (H H′ R R′ : List ℕ)
-    → givenOf a H R ≡ g → givenOf b H′ R′ ≡ g → (a ≡ b) × (H ≡ H′) × (R ≡ R′)
+Settles = (T : Type 0) (g : Given T) (a b : T) (H H′ R R′ t t′ : List ℕ)
+    → givenOf a H R t ≡ g → givenOf b H′ R′ t′ ≡ g → (a ≡ b) × (H ≡ H′) × (R ≡ R′) × (t ≡ t′)
 
 -- the record that a call returned is the one that the next call is made with, and the other way round
 pub record RecordLaw : Type 0 where
@@ -33,12 +33,16 @@ pub record RecordLaw : Type 0 where
 abbrev pub WordLaw : Type 0
 WordLaw = (H : List ℕ) (p : Place) (f : ℕ) → wordAt H (windowOf p) f ≡ windowWord H p f
 
+-- a call whose struct is not its own: neither inspect nor write
+abbrev pub Simple : Call → Type 0
+Simple c = ((r : ℕ) → c ≡ Ask.Inspect r → ⊥) × ((r : ℕ) → c ≡ Ask.Write r → ⊥)
+
 -- answers can be told apart in what C gets: two answers of one call that are returned alike are equal, whatever the records.
--- Inspect has a struct of its own; of the others refusal and value are enough.
+-- Inspect and write have a struct of their own each; of the others refusal and value are enough.
 pub record AnswersApart (Y : Layout) : Type 0 where
-  pub inResult : (c : Call) (s s′ : State) (q q′ : CRecord) → ((r : ℕ) → c ≡ Ask.Inspect r → ⊥)
+  pub inResult : (c : Call) (s s′ : State) (q q′ : CRecord) → Simple c
       → resultOf (told (step Y c s .answer)) q ≡ resultOf (told (step Y c s′ .answer)) q′ → step Y c s .answer ≡ step Y c s′ .answer
-  pub inAnswer : (c : Call) (s s′ : State) → ((r : ℕ) → c ≡ Ask.Inspect r → ⊥)
+  pub inAnswer : (c : Call) (s s′ : State) → Simple c
       → answerOf (told (step Y c s .answer)) ≡ answerOf (told (step Y c s′ .answer)) → step Y c s .answer ≡ step Y c s′ .answer
   pub inCollected : (s s′ : State) (q q′ : CRecord)
       → collectedOf (told (step Y Ask.Collect s .answer)) q ≡ collectedOf (told (step Y Ask.Collect s′ .answer)) q′
@@ -46,6 +50,9 @@ pub record AnswersApart (Y : Layout) : Type 0 where
   pub inSeen : (r : ℕ) (s s′ : State)
       → seenOf (told (step Y (Ask.Inspect r) s .answer)) ≡ seenOf (told (step Y (Ask.Inspect r) s′ .answer))
       → step Y (Ask.Inspect r) s .answer ≡ step Y (Ask.Inspect r) s′ .answer
+  pub inWritten : (r : ℕ) (s s′ : State)
+      → writtenOf (told (step Y (Ask.Write r) s .answer)) ≡ writtenOf (told (step Y (Ask.Write r) s′ .answer))
+      → step Y (Ask.Write r) s .answer ≡ step Y (Ask.Write r) s′ .answer
   pub inFresh : (s s′ : State) (q q′ : CRecord) → resultOf (told (fresh s .answer)) q ≡ resultOf (told (fresh s′ .answer)) q′
       → fresh s .answer ≡ fresh s′ .answer
   pub inWord : (H H′ : List ℕ) (w w′ : CWindow) (f f′ : ℕ) → answerOf (told (wordAt H w f)) ≡ answerOf (told (wordAt H′ w′ f′))

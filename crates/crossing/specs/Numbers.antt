@@ -14,7 +14,7 @@ use Rattle.model.specs.declared.Answer.the-variants as Says
 use Rattle.model.specs.declared.Place.{Place}
 use Rattle.model.specs.declared.Place.the-variants as Place
 use Rattle.model.specs.declared.Told.{Told}
-use Rattle.model.specs.Words.{State, stateOf, at}
+use Rattle.model.specs.Words.{State, stateOf, withText, at}
 use Rattle.model.specs.Shape.{badLength}
 use Rattle.model.specs.Answers.{Outcome, number, told}
 use Rattle.model.specs.Calls.{fresh}
@@ -25,11 +25,12 @@ use Rattle.crossing.specs.declared.CResult.{CResult}
 use Rattle.crossing.specs.declared.CCollected.{CCollected}
 use Rattle.crossing.specs.declared.CAnswer.{CAnswer}
 use Rattle.crossing.specs.declared.CSeen.{CSeen}
+use Rattle.crossing.specs.declared.CWritten.{CWritten}
 use Rattle.crossing.specs.declared.CWindow.{CWindow}
 
--- 0.3.0, as major * 1,000,000 + minor * 1,000 + patch
+-- 0.4.0, as major * 1,000,000 + minor * 1,000 + patch
 abbrev pub version : ℕ
-version = 3_000
+version = 4_000
 
 -- ---- records: half A is 0, half B is 1, and no other number is a half
 
@@ -65,37 +66,41 @@ crossed s = record { refusal = s .refusal; kind = s .holds; integer = s .integer
 abbrev pub seenOf : Told → CSeen
 seenOf t = crossed (Places.seenOf t)
 
+abbrev pub writtenOf : Told → CWritten
+writtenOf t = record { refusal = t .refusal; length = t .length }
+
 -- of a call that hands no record back: what it returns, beside the record that it leaves
 abbrev pub keeping : {T : Type 0} → (Told → T) → Told → CRecord → T × CRecord
 keeping returns t c = (returns t, c)
 
 -- ---- the calls
 
--- what a call returns to C, and the words that it leaves
+-- what a call returns to C, and the words and bytes that it leaves
 pub record Given (T : Type 0) : Type 0 where
   pub returned : T
   pub heap : List ℕ
   pub roots : List ℕ
+  pub text : List ℕ
 
-abbrev pub givenOf : {T : Type 0} → T → List ℕ → List ℕ → Given T
-givenOf r H R = record { returned = r; heap = H; roots = R }
+abbrev pub givenOf : {T : Type 0} → T → List ℕ → List ℕ → List ℕ → Given T
+givenOf r H R t = record { returned = r; heap = H; roots = R; text = t }
 
 module _ {T : Type 0} (returns : Told → CRecord → T) where
   -- an outcome in numbers
   abbrev pub inNumbers : Outcome State → Given T
-  inNumbers o = givenOf (returns (told (o .answer)) (numbersOf (o .left .«record»))) (o .left .heap) (o .left .roots)
+  inNumbers o = givenOf (returns (told (o .answer)) (numbersOf (o .left .«record»))) (o .left .heap) (o .left .roots) (o .left .text)
 
   -- SHAPE: nothing changes, and the record is handed back as it came
-  abbrev pub shapeRefused : List ℕ → List ℕ → CRecord → Given T
-  shapeRefused H R c = givenOf (returns (told (Says.Refused Why.Shape)) c) H R
+  abbrev pub shapeRefused : List ℕ → List ℕ → List ℕ → CRecord → Given T
+  shapeRefused H R t c = givenOf (returns (told (Says.Refused Why.Shape)) c) H R t
 
   -- a call of the model, given numbers: a half that is none is SHAPE
-  unfoldable pub calledOf : (State → Outcome State) → List ℕ → List ℕ → CRecord → Given T
-  calledOf f H R c = cond (noHalf c) (shapeRefused H R c) (inNumbers (f (stateOf H R (recordOf c))))
+  unfoldable pub calledOf : (State → Outcome State) → List ℕ → List ℕ → List ℕ → CRecord → Given T
+  calledOf f H R t c = cond (noHalf c) (shapeRefused H R t c) (inNumbers (f (withText t (stateOf H R (recordOf c)))))
 
 -- fresh looks at no number of the record: its SHAPE is that of the heap's length alone, and it has no roots
 unfoldable pub begun : List ℕ → CRecord → Given CResult
-begun H c = cond (badLength (length H)) (shapeRefused resultOf H [] c) (inNumbers resultOf (fresh (stateOf H [] (recordOf c))))
+begun H c = cond (badLength (length H)) (shapeRefused resultOf H [] [] c) (inNumbers resultOf (fresh (stateOf H [] (recordOf c))))
 
 -- ---- the window: the index of the first field's word, and how many there are
 

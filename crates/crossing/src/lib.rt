@@ -53,6 +53,14 @@ pub struct CSeen {
     pub code: u32,
 }
 
+// Of a call that writes a text: its bytes may be more than 32 bits count, and two numbers of one width leave
+// no gap between them.
+#[repr(C)]
+pub struct CWritten {
+    pub refusal: usize,
+    pub length: usize,
+}
+
 // The words of the fields are `count` words of the heap, from the index `first` on.
 #[repr(C)]
 pub struct CWindow {
@@ -182,6 +190,17 @@ pub fn seen_of(seen: Seen) -> CSeen
         integer: seen.integer,
         count: seen.count,
         code: seen.code,
+    }
+}
+
+pub fn written_of(answer: Answer) -> CWritten
+    ensures { λ r. ⌜ r ≡ Numbers.writtenOf (told answer) ⌝ }
+{
+    let told = numbers::told(answer);
+    let refusal = told.refusal as usize;
+    CWritten {
+        refusal,
+        length: told.length,
     }
 }
 

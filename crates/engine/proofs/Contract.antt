@@ -8,7 +8,7 @@ use lib.ListN.{length}
 use Rattle.model.specs.declared.Half.{Half}
 use Rattle.model.specs.declared.Answer.the-variants as Says
 use Rattle.model.specs.Limits.{maxHalf}
-use Rattle.model.specs.Words.{State, stateOf, halfWords, other, firstOf, firstWord, otherFirst, free}
+use Rattle.model.specs.Words.{State, withHeap, withRoots, withFree, halfWords, other, firstOf, firstWord, otherFirst, free}
 use Rattle.model.specs.Headers.{Layout, Marks}
 use Rattle.model.specs.Soundness.{sound}
 use Rattle.model.specs.Collection.{live, collected}
@@ -18,7 +18,7 @@ use Rattle.model.proofs.Soundness.{SoundTests, sound-parts}
 use Rattle.model.proofs.Order.{order-fits}
 use Rattle.model.proofs.Collected.{live-is}
 use Rattle.words.proofs.FirstWords.{first-by-length}
-use Rattle.engine.specs.Evacuation.{Emptied, emptied, evacuated, SafeEvacuation}
+use Rattle.engine.specs.Evacuation.{Emptied, emptied, movedTo, evacuated, SafeEvacuation}
 use Rattle.engine.proofs.End.{safe, leaves, ended-is, free-is}
 
 module _ (Y : Layout) (K : Marks Y) (s : State) (e : sound Y s ≡ true) where
@@ -58,12 +58,10 @@ module _ (Y : Layout) (K : Marks Y) (s : State) (e : sound Y s ≡ true) where
       pub end-high : end - new ≤ maxHalf
       end-high = omega (arith, end-is, live-is Y s v, order-fits Y s v, v .shape .small)
 
-      pub collect-is : says (Says.Live (end - new)) (stateOf h′ rs′ (record { half = half; free = record { 0 = end } }))
-          ≡ says (Says.Live (live Y s)) (collected Y s)
+      abbrev left : Half → State
+      left x = withFree x end (withRoots rs′ (withHeap h′ s))
+
+      pub collect-is : says (Says.Live (end - new)) (left half) ≡ says (Says.Live (live Y s)) (collected Y s)
       collect-is =
-          ap (λ (x : ℕ). says (Says.Live x) (stateOf h′ rs′ (record { half = half; free = record { 0 = end } }))) (omega (arith, end-is))
-          ∙ ap (λ (x : State). says (Says.Live (live Y s)) x)
-          (ap (λ (x : Half). stateOf h′ rs′ (record { half = x; free = record { 0 = end } })) i
-          ∙ ap (λ (u : Emptied).
-          stateOf (u .heap) (u .roots) (record { half = other (s .«record» .half); free = record { 0 = u .free } })) there
-          ∙ ended-is Y K s v)
+          ap (λ (x : ℕ). says (Says.Live x) (left half)) (omega (arith, end-is))
+          ∙ ap (λ (x : State). says (Says.Live (live Y s)) x) (ap left i ∙ ap (movedTo s) there ∙ ended-is Y K s v)

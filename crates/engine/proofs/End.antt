@@ -7,7 +7,7 @@ use mathlib.Core.Logic.{inl, inr, ⊎-elim}
 use mathlib.Core.List.{List}
 use lib.ListN.{length}
 use lib.Seq.{ext-getD}
-use Rattle.model.specs.Words.{State, stateOf, at, halfWords, other, firstWord, otherFirst, free}
+use Rattle.model.specs.Words.{State, at, halfWords, other, firstWord, otherFirst, free}
 use Rattle.model.specs.Headers.{Layout, Marks}
 use Rattle.model.specs.Discovery.{mem, packed}
 use Rattle.model.specs.Collection.{cells, orderAt, live, collected}
@@ -18,14 +18,14 @@ use Rattle.model.proofs.Shape.{first-in, other-in, halves-cover}
 use Rattle.model.proofs.Soundness.{SoundTests}
 use Rattle.model.proofs.Keeping.{tile}
 use Rattle.model.proofs.Order.{free-in}
-use Rattle.model.proofs.Collected.{new-length, new-old, new-null, new-free}
+use Rattle.model.proofs.Collected.{new-length, new-old, new-null, new-free, new-text}
 use Rattle.model.proofs.Stage.{stage-kept, stage-length}
 use Rattle.model.proofs.During.{order-heads, order-room, end-word, end-roots, end-record}
 use Rattle.model.proofs.Middle.{halves-ordered, stage-null}
 use Rattle.runs.specs.Runs.{cleared}
 use Rattle.runs.proofs.RunLaws.{cleared-length, cleared-inside, cleared-outside}
 use Rattle.engine_scanning.specs.Scanning.{between}
-use Rattle.engine.specs.Evacuation.{Emptied, rooted, evacuated, SafeEvacuation}
+use Rattle.engine.specs.Evacuation.{Emptied, movedTo, rooted, evacuated, SafeEvacuation}
 use Rattle.engine.specs.Middle.{stateAfter}
 use Rattle.engine.proofs.Slices.{safe-roots, after-roots, scan-starts, safe-slice}
 use Rattle.engine.proofs.Middle.{state-is}
@@ -121,14 +121,14 @@ module _ (Y : Layout) (K : Marks Y) (s : State) (v : SoundTests Y s) where
   leaves = evacuated Y (s .heap) (s .roots) (firstWord s) (free s - firstWord s) (otherFirst s)
 
   -- THE END
-  pub ended-is : stateOf (leaves .heap) (leaves .roots)
-      (record { half = other (s .«record» .half); free = record { 0 = leaves .free } }) ≡ collected Y s
+  pub ended-is : movedTo s leaves ≡ collected Y s
   unfolding evacuated stateAfter
   ended-is =
       λ i. record {
         heap = (ap (λ (d : State). cleared (d .heap) (firstWord s) used) last ∙ heap-is) i;
         roots = (ap (λ (d : State). d .roots) last ∙ end-roots Y s v n over) i;
         «record» = (ap (λ (d : State). d .«record») last ∙ end-record Y s v n over) i;
+        text = sym (new-text Y s) i;
       }
 
   pub free-is : leaves .free ≡ otherFirst s + live Y s

@@ -8,3 +8,5 @@ pub mod Slices
 pub mod Middle
 pub mod End
 pub mod Contract
+pub mod Among
+pub mod Left

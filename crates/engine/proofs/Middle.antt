@@ -10,7 +10,7 @@ use mathlib.Core.List.{List}
 use mathlib.Core.Option.{none}
 use lib.ListN.{length, List·getD-eq-default}
 use lib.Seq.{ext-getD}
-use Rattle.model.specs.Words.{State, stateOf, at, halfWords, other, firstWord, otherFirst}
+use Rattle.model.specs.Words.{State, at, halfWords, other, firstWord, otherFirst}
 use Rattle.model.specs.Headers.{Layout, Marks}
 use Rattle.model.specs.Discovery.{mem, packed}
 use Rattle.model.specs.Soundness.{sound}
@@ -27,7 +27,7 @@ use Rattle.model.proofs.Stage.{stage-passed, stage-coming, stage-rest, stage-he
 use Rattle.model.proofs.During.{rename-stable, order-heads, order-room, root-found, ended}
 use Rattle.model.proofs.Middle.{halves-ordered, stage-null, order-later, during-still}
 use Rattle.engine_scanning.specs.Scanning.{Scan, between, run}
-use Rattle.engine.specs.Evacuation.{Emptied, rooted, scanned}
+use Rattle.engine.specs.Evacuation.{Emptied, emptied, movedTo, rooted, scanned}
 use Rattle.engine.specs.Middle.{stateAfter, placeAfter, Middle}
 use Rattle.engine.proofs.Midway.{Midway}
 use Rattle.engine.proofs.Passing.{Scans}
@@ -115,19 +115,19 @@ module _ (Y : Layout) (K : Marks Y) (s : State) (v : SoundTests Y s) where
 
   -- a scan that stands after p words
   stands-is : (p : ℕ) (h : List ℕ) (c : Scan) → Scans Y s (orderAt Y s p) p h c
-      → stateOf h (e .roots) (record { half = other (s .«record» .half); free = record { 0 = c .free } }) ≡ during Y s p
+      → movedTo s (emptied h (e .roots) (c .free)) ≡ during Y s p
   unfolding stage
   stands-is p h c I =
       λ i. record {
         heap = midway-heap Y s v p h (I .mid) i;
         roots = during-roots p i;
         «record» = record { half = other (s .«record» .half); free = record { 0 = I .free i } };
+        text = s .text;
       }
 
   -- a slice: from the state after p words, at most n more give the state after p + n
   slice-is : (n p : ℕ) (h : List ℕ) (c : Scan) → Scans Y s (orderAt Y s p) p h c
-      → stateOf (run Y n h c .heap) (e .roots)
-      (record { half = other (s .«record» .half); free = record { 0 = run Y n h c .scan .free } }) ≡ during Y s (p + n)
+      → movedTo s (emptied (run Y n h c .heap) (e .roots) (run Y n h c .scan .free)) ≡ during Y s (p + n)
   slice-is n p h c I =
       let r = slice Y K s v n p h c I in
       stands-is (r .place) (run Y n h c .heap) (run Y n h c .scan) (r .scans)

@@ -2,6 +2,7 @@
 use Prim.Native.Nat.{ℕ, _+_, _-_, _≤_}
 use mathlib.Core.List.{List, [], _∷_}
 use lib.ListN.{length}
+use Rattle.model.specs.Words.{State, withHeap, withRoots, withFree, other}
 use Rattle.model.specs.Headers.{Layout}
 use Rattle.runs.specs.Runs.{cleared}
 use Rattle.engine_moving.specs.Moving.{renamed, MayRename}
@@ -15,6 +16,10 @@ pub record Emptied : Type 0 where
 
 abbrev pub emptied : List ℕ → List ℕ → ℕ → Emptied
 emptied h rs f = record { heap = h; roots = rs; free = f }
+
+-- the state with that, in the other half
+abbrev pub movedTo : State → Emptied → State
+movedTo s e = withFree (other (s .«record» .half)) (e .free) (withRoots (e .roots) (withHeap (e .heap) s))
 
 -- a root more in front
 abbrev pub rootFirst : ℕ → Emptied → Emptied

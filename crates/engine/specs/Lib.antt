@@ -1,2 +1,3 @@
+pub mod Collecting
 pub mod Evacuation
 pub mod Middle

@@ -2,11 +2,11 @@
 -- will promise this; the whole collection is the case where no word is left to pass.
 use Prim.Native.Nat.{ℕ, _+_, min}
 use mathlib.Core.Path.{_≡_}
-use Rattle.model.specs.Words.{State, stateOf, other, otherFirst}
+use Rattle.model.specs.Words.{State, otherFirst}
 use Rattle.model.specs.Headers.{Layout}
 use Rattle.model.specs.Collection.{live}
 use Rattle.model.specs.During.{during}
-use Rattle.engine.specs.Evacuation.{rooted, scanned}
+use Rattle.engine.specs.Evacuation.{emptied, movedTo, rooted, scanned}
 
 module _ (Y : Layout) where
   -- heap, roots and record once the roots are renamed and at most p words passed
@@ -15,7 +15,7 @@ module _ (Y : Layout) where
       let new = otherFirst s in
       let e = rooted Y (s .heap) (s .roots) new in
       let a = scanned Y p new e in
-      stateOf (a .heap) (e .roots) (record { half = other (s .«record» .half); free = record { 0 = a .scan .free } })
+      movedTo s (emptied (a .heap) (e .roots) (a .scan .free))
 
   -- where the scan then stands
   unfoldable pub placeAfter : State → ℕ → ℕ

@@ -2,13 +2,14 @@
 // old words cleared. It is proved equal to the definition of a collection, which knows of no algorithm.
 ghost use mathlib.Core.Path.{_≡_};
 ghost use mathlib.Core.Bool.{true};
+ghost use lib.ListN.{length};
 ghost use Rattle.model.specs.Headers.{tuple};
 ghost use Rattle.model.specs.Words.{stateOf};
 ghost use Rattle.model.specs.Soundness.{sound};
-ghost use Rattle.model.specs.Collection.{live, collected};
 ghost use Rattle.model.specs.Answers.{says};
 ghost use Rattle.model.specs.Contracts.{lent, leaves};
 ghost use Rattle.model.specs.declared.Answer.the-variants as Says;
+ghost use Rattle.engine.specs.Collecting.{collection};
 ghost use Rattle.engine.specs.Evacuation.{emptied, rooted, SafeRoots, evacuated, SafeEvacuation};
 use model::Index;
 use model::Record;
@@ -56,8 +57,7 @@ fn evacuate(heap: &mut [u32], roots: &mut [u32], old: Index, used: usize, new: I
 pub fn collect_sound(heap: &mut [u32], roots: &mut [u32], record: Record) -> Collected
     requires { ⌜ sound tuple (stateOf (now heap) (now roots) «record») ≡ true ⌝ }
     ensures { λ r. ⌜ says (Says.Live (r .live)) (leaves heap roots (r .«record»))
-        ≡ says (Says.Live (live tuple (lent heap roots «record»)))
-        (collected tuple (lent heap roots «record»)) ⌝ }
+        ≡ collection tuple (lent heap roots «record») ⌝ }
 {
     let half_words = shape::half_words(heap.len());
     let half = record.half;
@@ -74,4 +74,15 @@ pub fn collect_sound(heap: &mut [u32], roots: &mut [u32], record: Record) -> Col
             free: end,
         },
     }
+}
+
+// The same, where the first `count` roots count as live: all of them. It is for a call that makes room, of which
+// the root that it sets counts too.
+pub fn collect_among(heap: &mut [u32], roots: &mut [u32], count: usize, record: Record) -> Collected
+    requires { ⌜ (count ≡ length (now roots))
+        × (sound tuple (stateOf (now heap) (now roots) «record») ≡ true) ⌝ }
+    ensures { λ r. ⌜ says (Says.Live (r .live)) (leaves heap roots (r .«record»))
+        ≡ collection tuple (lent heap roots «record») ⌝ }
+{
+    collect_sound(heap, &mut roots[..count], record)
 }

@@ -13,7 +13,7 @@ use denote.Enum.Declared.{Declared, variants, shape, row}
 use denote.Enum.Laws as EL
 use Rattle.model.specs.declared.Record.{Record}
 use Rattle.model.specs.declared.Answer.{Answer}
-use Rattle.model.specs.Words.{State, stateOf}
+use Rattle.model.specs.Words.{State, stateOf, withText}
 use Rattle.model.specs.Answers.{Outcome, says}
 use Rattle.model.proofs.Answer as N
 use Rattle.model.proofs.Answer.Laws as N′
@@ -97,3 +97,9 @@ answered = record {
 -- the promise by a call's definition: of what is lent, the answer and what is left
 abbrev pub as-defined : (State → Outcome State) → List ℕ → List ℕ → Record → Answer → List ℕ → List ℕ → Record → Type 0
 as-defined defined heap roots q a heap′ roots′ q′ = says a (stateOf heap′ roots′ q′) ≡ defined (stateOf heap roots q)
+
+-- of a call that is lent the bytes of a text too
+abbrev pub as-defined-text : (State → Outcome State) → List ℕ → List ℕ → Record → List ℕ → Answer → List ℕ → List ℕ → Record → List ℕ
+    → Type 0
+as-defined-text defined heap roots q text a heap′ roots′ q′ text′ =
+    says a (withText text′ (stateOf heap′ roots′ q′)) ≡ defined (withText text (stateOf heap roots q))

@@ -1,9 +1,9 @@
-// The by-value calls that are not lent both slices by `&mut`, each lent both so: its equation says what it
+// The by-value calls that are not lent every slice by `&mut`, each lent all so: its equation says what it
 // leaves as it was. Every thin call then lends heap and roots the same way to what it calls, and the walks of
 // their code differ in nothing but the number of values that follow the record.
 ghost use mathlib.Core.Path.{_≡_};
 ghost use Rattle.model.specs.Headers as Layouts;
-ghost use Rattle.model.specs.Contracts.{lent, outcome};
+ghost use Rattle.model.specs.Contracts.{lent, lentText, outcome, outcomeText};
 ghost use Rattle.model.specs.Calls as Calls;
 use model::Answered;
 use model::Record;
@@ -133,4 +133,30 @@ pub(crate) fn raw_write(
         ≡ Calls.rawWrite Layouts.tuple object field number (lent heap roots «record») ⌝ }
 {
     objects::raw_write(heap, roots, record, object, field, number)
+}
+
+pub(crate) fn write(
+    heap: &mut [u32],
+    roots: &mut [u32],
+    record: Record,
+    root: usize,
+    text: &mut [u8],
+) -> Answered
+    ensures { λ r. ⌜ outcomeText r heap roots text
+        ≡ Calls.write Layouts.tuple root (lentText heap roots «record» text) ⌝ }
+{
+    writer::write(heap, roots, record, root, text)
+}
+
+pub(crate) fn read(
+    heap: &mut [u32],
+    roots: &mut [u32],
+    record: Record,
+    to: usize,
+    text: &mut [u8],
+) -> Answered
+    ensures { λ r. ⌜ outcomeText r heap roots text
+        ≡ Calls.read Layouts.tuple to (lentText heap roots «record» text) ⌝ }
+{
+    reader::read(heap, roots, record, to, text)
 }

@@ -4,4 +4,5 @@
 mod by_value;
 pub mod fields;
 pub mod roots;
+pub mod texts;
 pub mod whole;

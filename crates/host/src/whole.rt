@@ -2,7 +2,7 @@
 // call.
 ghost use mathlib.Core.Path.{_≡_};
 ghost use Rattle.model.specs.Headers as Layouts;
-ghost use Rattle.model.specs.Contracts.{thinLent, thinOutcome};
+ghost use Rattle.model.specs.Contracts.{thinLent, thinLentText, thinOutcome, thinOutcomeText};
 ghost use Rattle.model.specs.Calls as Calls;
 ghost use Rattle.model.specs.Sessions as Sessions;
 use super::by_value;
@@ -62,12 +62,19 @@ pub fn allocate(
     answered.answer
 }
 
-// One session call, whichever it is: its answer, and what it leaves.
-pub fn step(heap: &mut [u32], roots: &mut [u32], record: &mut Record, call: Call) -> Answer
-    ensures { λ r. ⌜ thinOutcome r heap roots «record»
-        ≡ Sessions.step Layouts.tuple call (thinLent heap roots «record») ⌝ }
+// One session call, whichever it is, lent the bytes of a text, which only write and read look at: its answer,
+// and what it leaves.
+pub fn step(
+    heap: &mut [u32],
+    roots: &mut [u32],
+    record: &mut Record,
+    call: Call,
+    text: &mut [u8],
+) -> Answer
+    ensures { λ r. ⌜ thinOutcomeText r heap roots «record» text
+        ≡ Sessions.step Layouts.tuple call (thinLentText heap roots «record» text) ⌝ }
 {
-    let answered = session::step(heap, roots, *record, call);
+    let answered = session::step(heap, roots, *record, call, text);
     *record = answered.record;
     answered.answer
 }

@@ -5,6 +5,7 @@ use mathlib.Core.List.{map}
 use Rattle.model.specs.Worked as Worked
 use Rattle.model.specs.Worked.{ran, expected}
 use Rattle.model.specs.CodeWords as CodeWords
+use Rattle.model.specs.TextCases as TextCases
 use Rattle.model.specs.Unnamed as Unnamed
 use Rattle.model.specs.Unsound as Unsound
 use Rattle.model.specs.EachCall as EachCall
@@ -14,6 +15,8 @@ use Rattle.model.specs.Edges as Edges
 pub record AllCases : Type 0 where
   pub worked : map ran Worked.cases ≡ map expected Worked.cases
   pub coded : map ran CodeWords.codes ≡ map expected CodeWords.codes
+  pub spelt : map ran TextCases.writer ≡ map expected TextCases.writer
+  pub seen : map ran TextCases.reader ≡ map expected TextCases.reader
   pub unnamed : map ran Unnamed.namings ≡ map expected Unnamed.namings
   pub unsound : map ran Unsound.judgements ≡ map expected Unsound.judgements
   pub called : map ran EachCall.calls ≡ map expected EachCall.calls
@@ -23,6 +26,8 @@ pub all-cases : AllCases
 all-cases = record {
   worked = Worked.worked;
   coded = CodeWords.coded;
+  spelt = TextCases.spelt;
+  seen = TextCases.seen;
   unnamed = Unnamed.unnamed;
   unsound = Unsound.unsound;
   called = EachCall.called;

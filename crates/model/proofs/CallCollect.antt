@@ -203,6 +203,7 @@ module _ (Y : Layout) (near : Adjacent Y) (s : State) (g : Graph) (m : Represent
     apart = λ x y i j e. m .apart x y (kept-known x i) (kept-known y j)
         (c .shared (m .headerOf x) (m .headerOf y) (kept-reach x i) (kept-reach y j) e);
     count = c .rootCount ∙ m .count;
+    text = c .sameText ∙ m .text;
     roots = λ r l.
         let n : r < length (s .roots) = omega (arith, m .count) in
         became (rootValue g r) (at (s .roots) r) (at (collected Y s .roots) r) (m .roots r l) (c .root r n) (λ p. D.fromRoot r n p);

@@ -6,30 +6,30 @@ use mathlib.Core.Logic.{⊎-elim}
 use mathlib.Core.Bool.{cond}
 use mathlib.Core.List.{List, [], _∷_, _++_}
 use lib.Dec.{eqb}
-use lib.ListN.{length, getD, set, replicate, length-append, length-set, length-replicate, getD-replicate, List·getD-append}
-use lib.Seq.{getD-set-same, getD-set-other, getD-append-seam}
+use lib.ListN.{length, getD, replicate, length-append, length-replicate, getD-replicate, List·getD-append}
+use lib.Seq.{getD-append-seam}
 use borrow.Author.Tests.{eq-eqb, ne-eqb}
 use Rattle.model.specs.declared.Kind.{Kind}
 use Rattle.model.specs.declared.Kind.the-variants.{Traced, Untraced}
-use Rattle.model.specs.Changes.{spare, placed}
+use Rattle.model.specs.Changes.{spare, appended, placed}
 use Rattle.model.specs.Graph.{null, Value, plain, object, Object, traced, untraced, Graph, nth, rootValue}
-use Rattle.model.specs.GraphCalls.{blankObject, grown}
+use Rattle.model.specs.GraphCalls.{blankObject, withBlank, grown}
 use Rattle.model.specs.Headers.{Layout, WritesBoth}
 use Rattle.model.specs.Limits.{maxFields}
 use Rattle.model.specs.Objects.{address, size}
 use Rattle.model.specs.Soundness.{headers}
 use Rattle.model.specs.Words.{State, at, free}
 use Rattle.model.proofs.CallsOnFields.{holds-kept}
+use Rattle.model.proofs.CallsOnRoots.{root-represents, root-kept, root-place}
 use Rattle.model.proofs.Deciding.{tests-sound}
 use Rattle.model.proofs.Keeping.{tile}
 use Rattle.model.proofs.Members.{In, in-append-left, in-snoc, in-last}
-use Rattle.model.proofs.Placing.{place-header, place-other, place-headers, place-sound}
+use Rattle.model.proofs.Placing.{append-header, append-other, append-headers, append-sound}
 use Rattle.model.specs.Represents.{Encodes, Holds, Represents}
 use Rattle.model.proofs.Represents.{parts}
-use Rattle.model.proofs.Tests.{same?}
 
 module _ (Y : Layout) (law : WritesBoth Y) where
-  module _ (s : State) (g : Graph) (m : Represents Y s g) (k : Kind) (n r : ℕ) (small : n ≤ maxFields)
+  module _ (s : State) (g : Graph) (m : Represents Y s g) (k : Kind) (n : ℕ) (small : n ≤ maxFields)
       (fit : n + 1 ≤ spare s) where
     abbrev N : ℕ
     N = length (g .objects)
@@ -41,10 +41,10 @@ module _ (Y : Layout) (law : WritesBoth Y) where
     headerOf⁺ x = cond (eqb x (length (g .objects))) (free s) (m .headerOf x)
 
     abbrev g⁺ : Graph
-    g⁺ = grown k n r g
+    g⁺ = withBlank k n g
 
     abbrev s⁺ : State
-    s⁺ = placed Y k n r s
+    s⁺ = appended Y k n s
 
     old-pl : (x : ℕ) → In x (m .kept) → headerOf⁺ x ≡ m .headerOf x
     old-pl x i = rw (ne-eqb x (length (g .objects)) (λ e. let z = m .known x i in omega arith))
@@ -70,47 +70,44 @@ module _ (Y : Layout) (law : WritesBoth Y) where
     old-holds x i =
         let u = under x i in
         holds-kept Y kept⁺ headerOf⁺ (s .heap) (s⁺ .heap) (nth g x) (m .headerOf x)
-        (place-other Y law s (parts m) k n r small fit (m .headerOf x) (λ e. omega arith))
-        (λ f l. place-other Y law s (parts m) k n r small fit (m .headerOf x + 1 + f) (λ e. omega arith))
+        (append-other Y law s (parts m) k n small fit (m .headerOf x) (λ e. omega arith))
+        (λ f l. append-other Y law s (parts m) k n small fit (m .headerOf x + 1 + f) (λ e. omega arith))
         (holds-more (nth g x) (m .headerOf x) (m .holds x i))
 
     -- the new object's words
     field-zero : (f : ℕ) → f < n → at (s⁺ .heap) (free s + 1 + f) ≡ 0
     field-zero f l =
-        place-other Y law s (parts m) k n r small fit (free s + 1 + f) (λ e. omega arith)
+        append-other Y law s (parts m) k n small fit (free s + 1 + f) (λ e. omega arith)
         ∙ parts m .rest (free s + 1 + f) (omega arith) (omega (arith, parts m .shape .low))
 
     new-holds : (j : Kind) → k ≡ j → Holds Y kept⁺ headerOf⁺ (s⁺ .heap) (blankObject j n) (free s)
     new-holds Traced e =
-        let h = place-header Y law s (parts m) k n r small fit in
+        let h = append-header Y law s (parts m) k n small fit in
         let z : length {A = Value} (replicate n (plain null)) ≡ n = length-replicate n (plain null) in (
           ap (λ w. Y .kindOf w) h ∙ law k .kinds n small ∙ e,
           ap (λ w. Y .countOf w) h ∙ law k .counts n small ∙ sym z,
           λ f l. rw (getD-replicate n f (plain null) (plain null) (omega arith)) (refl, field-zero f (omega arith)),
         )
     new-holds Untraced e =
-        let h = place-header Y law s (parts m) k n r small fit in
+        let h = append-header Y law s (parts m) k n small fit in
         let z : length {A = ℕ} (replicate n 0) ≡ n = length-replicate n 0 in (
           ap (λ w. Y .kindOf w) h ∙ law k .kinds n small ∙ e,
           ap (λ w. Y .countOf w) h ∙ law k .counts n small ∙ sym z,
           λ f l. field-zero f (omega arith) ∙ sym (getD-replicate n f 0 0 (omega arith)),
         )
 
-    roots-set : s⁺ .roots ≡ set (s .roots) r (address Y (free s))
-    unfolding placed
-    roots-set = refl
-
-    pub place-represents : Represents Y (placed Y k n r s) g⁺
-    place-represents = record {
-      ok = tests-sound Y (placed Y k n r s) (place-sound Y law s (parts m) k n r small fit);
+    pub append-represents : Represents Y s⁺ g⁺
+    append-represents = record {
+      ok = tests-sound Y s⁺ (append-sound Y law s (parts m) k n small fit);
       kept = kept⁺;
       headerOf = headerOf⁺;
+      text = m .text;
       known = λ x i.
           let a = length-append (g .objects) (blankObject k n ∷ []) in
           ⊎-elim (λ (j : In x (m .kept)). omega (arith, m .known x j)) (λ (e : x ≡ length (g .objects)). omega arith)
           (in-snoc x (length (g .objects)) (m .kept) i);
       head = λ x i.
-          rw (place-headers Y law s (parts m) k n r small fit)
+          rw (append-headers Y law s (parts m) k n small fit)
           (⊎-elim
           (λ (j : In x (m .kept)). rw (old-pl x j) (in-append-left (m .headerOf x) (headers Y s) (free s ∷ []) (m .head x j)))
           (λ (e : x ≡ length (g .objects)). rw (e, new-pl) (in-last (free s) (headers Y s)))
@@ -132,28 +129,8 @@ module _ (Y : Layout) (law : WritesBoth Y) where
           (λ (b : y ≡ length (g .objects)). a ∙ sym b)
           (in-snoc y (length (g .objects)) (m .kept) j))
           (in-snoc x (length (g .objects)) (m .kept) i);
-      count =
-          ap length roots-set ∙ length-set (s .roots) r (address Y (free s)) ∙ m .count
-          ∙ sym (length-set (g .roots) r (object (length (g .objects))));
-      roots = λ q l.
-          let l′ : q < length (g .roots) = let z = length-set (g .roots) r (object (length (g .objects))) in omega arith in
-          rw roots-set
-          (⊎-elim
-          (λ (z : q ≡ r).
-          subst (λ x. Encodes Y kept⁺ headerOf⁺ (getD (set (g .roots) r (object (length (g .objects)))) x (plain null))
-          (at (set (s .roots) r (address Y (free s))) x)) (sym z)
-          (rw (
-            getD-set-same (g .roots) r (object (length (g .objects))) (plain null) (omega arith),
-            getD-set-same (s .roots) r (address Y (free s)) 0 (omega (arith, m .count)),
-          )
-          (in-last (length (g .objects)) (m .kept), ap (address Y) (sym new-pl))))
-          (λ (d : q ≡ r → ⊥).
-          rw (
-            getD-set-other (g .roots) r q (object (length (g .objects))) (plain null) d,
-            getD-set-other (s .roots) r q (address Y (free s)) 0 d,
-          )
-          (rep-more (rootValue g q) (at (s .roots) q) (m .roots q l′)))
-          (same? q r));
+      count = m .count;
+      roots = λ q l. rep-more (rootValue g q) (at (s .roots) q) (m .roots q l);
       holds = λ x i.
           ⊎-elim
           (λ (j : In x (m .kept)).
@@ -163,3 +140,36 @@ module _ (Y : Layout) (law : WritesBoth Y) where
           (rw (new-pl, getD-append-seam (g .objects) (blankObject k n) [] (traced [])) (new-holds k refl)))
           (in-snoc x (length (g .objects)) (m .kept) i);
     }
+
+    -- what was kept is kept where it was, and the new object at the free index
+    pub append-kept : (x : ℕ) → In x (m .kept) → In x (append-represents .kept)
+    unfolding append-represents
+    append-kept x i = in-append-left x (m .kept) (length (g .objects) ∷ []) i
+
+    pub append-place : (x : ℕ) → In x (m .kept) → append-represents .headerOf x ≡ m .headerOf x
+    unfolding append-represents
+    append-place x i = old-pl x i
+
+    pub new-kept : In (length (g .objects)) (append-represents .kept)
+    unfolding append-represents
+    new-kept = in-last (length (g .objects)) (m .kept)
+
+    pub new-place : append-represents .headerOf (length (g .objects)) ≡ free s
+    unfolding append-represents
+    new-place = new-pl
+
+    -- and a root names it
+    pub place-represents : (r : ℕ) → Represents Y (placed Y k n r s) (grown k n r g)
+    unfolding placed
+    place-represents r =
+        root-represents Y s⁺ g⁺ append-represents r (address Y (free s)) (object (length (g .objects)))
+        (new-kept, ap (address Y) (sym new-place))
+
+    pub placed-kept : (r : ℕ) → In (length (g .objects)) (place-represents r .kept)
+    unfolding place-represents
+    placed-kept r = root-kept Y s⁺ g⁺ append-represents r (address Y (free s)) (object (length (g .objects))) _ (length (g .objects)) new-kept
+
+    pub placed-place : (r : ℕ) → place-represents r .headerOf (length (g .objects)) ≡ free s
+    unfolding place-represents
+    placed-place r =
+        root-place Y s⁺ g⁺ append-represents r (address Y (free s)) (object (length (g .objects))) _ (length (g .objects)) ∙ new-place

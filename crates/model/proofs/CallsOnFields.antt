@@ -154,6 +154,7 @@ module _ (Y : Layout) (near : Adjacent Y) where
         apart = m .apart;
         count = m .count;
         roots = m .roots;
+        text = m .text;
         holds = λ y j.
             ⊎-elim
             (λ (e : y ≡ x).
@@ -199,7 +200,7 @@ module _ (Y : Layout) (near : Adjacent Y) where
       rw (getD-set-other vs f k v d n, getD-set-other H (i + 1 + f) (i + 1 + k) w 0 (λ z. n (omega arith))) (h k a′))
       (same? k f)
 
-  store-represents : (s : State) (g : Graph) (m : Represents Y s g) (x f w : ℕ) (vs : List Value) (v : Value)
+  pub store-represents : (s : State) (g : Graph) (m : Represents Y s g) (x f w : ℕ) (vs : List Value) (v : Value)
       → In x (m .kept)
       → nth g x ≡ traced vs → f < length vs
       → Encodes Y (m .kept) (m .headerOf) v w
@@ -214,6 +215,17 @@ module _ (Y : Layout) (near : Adjacent Y) where
         set-alike (Encodes Y (m .kept) (m .headerOf)) vs (plain null) v (s .heap) (m .headerOf x) f w l
             (field-in s g m x f i u) (h .2) e,
       )
+
+  -- the same objects are kept, where they were
+  module _ (s : State) (g : Graph) (m : Represents Y s g) (x f w : ℕ) (vs : List Value) (v : Value) (i : In x (m .kept))
+      (o : nth g x ≡ traced vs) (l : f < length vs) (e : Encodes Y (m .kept) (m .headerOf) v w) where
+    pub store-kept : (z : ℕ) → In z (m .kept) → In z (store-represents s g m x f w vs v i o l e .kept)
+    unfolding store-represents word-represents
+    store-kept z a = a
+
+    pub store-place : (z : ℕ) → store-represents s g m x f w vs v i o l e .headerOf z ≡ m .headerOf z
+    unfolding store-represents word-represents
+    store-place z = refl
 
   pub store-agrees : (r f q : ℕ) (s : State) (g : Graph) → Represents Y s g
       → Agrees Y (step Y (Ask.Store r f q) s) (graphStep (Ask.Store r f q) g)

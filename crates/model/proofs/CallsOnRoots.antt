@@ -97,8 +97,19 @@ module _ (Y : Layout) where
         (rw (getD-set-same (g .roots) r v (plain null) (omega arith), getD-set-same (s .roots) r w 0 (omega (arith, m .count))) e))
         (λ (d : q ≡ r → ⊥). rw (getD-set-other (g .roots) r q v (plain null) d, getD-set-other (s .roots) r q w 0 d) (m .roots q l′))
         (same? q r);
+    text = m .text;
     holds = m .holds;
   }
+
+  -- the same objects are kept, where they were
+  module _ (s : State) (g : Graph) (m : Represents Y s g) (r w : ℕ) (v : Value) (e : Encodes Y (m .kept) (m .headerOf) v w) (z : ℕ) where
+    pub root-kept : In z (m .kept) → In z (root-represents s g m r w v e .kept)
+    unfolding root-represents
+    root-kept a = a
+
+    pub root-place : root-represents s g m r w v e .headerOf z ≡ m .headerOf z
+    unfolding root-represents
+    root-place = refl
 
   pub has-root : (s : State) (g : Graph) (m : Represents Y s g) (r : ℕ) → noRoot s r ≡ false → r < length (g .roots)
   has-root s g m r e = let z = leb-false (length (s .roots)) r e in omega (arith, m .count)

@@ -62,7 +62,7 @@ module _ (Y : Layout) (s : State) where
       ⊎-elim (λ (l : r < length (s .roots)). l) (λ (l : length (s .roots) ≤ r). absurd (n (r, m, l)))
       (decide r (length (s .roots)))
 
-  good-shape : (C.BadShape s → ⊥) → Shaped s
+  pub good-shape : (C.BadShape s → ⊥) → Shaped s
   good-shape a = shaped s (fails-test (shape-decides s) a)
 
   -- past OBJECT, KIND and FIELD

@@ -24,6 +24,7 @@ root-changed s r w l = record {
   count = length-set (s .roots) r w;
   sameHeap = refl;
   sameRecord = refl;
+  sameText = refl;
 }
 
 pub word-changed : (s : State) (i w : ℕ) → i < length (s .heap) → E.WordChanged s i w (withWord s i w)
@@ -33,6 +34,7 @@ word-changed s i w l = record {
   sameLength = length-set (s .heap) i w;
   sameRoots = refl;
   sameRecord = refl;
+  sameText = refl;
 }
 
 pub new-object : (Y : Layout) (k : Kind) (n r : ℕ) (s : State) → Shaped s → r < length (s .roots) → n + 1 ≤ spare s
@@ -58,6 +60,7 @@ new-object Y k n r s h l f =
       otherRoots = λ q d. getD-set-other (s .roots) r q (address Y (free s)) 0 d;
       rootCount = length-set (s .roots) r (address Y (free s));
       sameHalf = refl;
+      sameText = refl;
       freeIs = refl;
     }
   where

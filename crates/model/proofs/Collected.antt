@@ -147,3 +147,8 @@ module _ (Y : Layout) (s : State) (h : SoundTests Y s) where
   pub new-roots : length (s′ .roots) ≡ length (s .roots)
   unfolding copied
   new-roots = length-map (s .roots) (rename Y (s .heap) (order Y s) (otherFirst s))
+
+-- the bytes that are lent stay
+pub new-text : (Y : Layout) (s : State) → collected Y s .text ≡ s .text
+unfolding copied
+new-text Y s = refl

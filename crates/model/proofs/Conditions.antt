@@ -135,10 +135,10 @@ pub unsound-decides : (Y : Layout) (s : State) → Decides (not (sound Y s)) (Ro
 unsound-decides Y s = not-decides (sound-decides Y s)
 
 -- where a collection is called for
-pub called : (n : ℕ) (s : State) → fits n s ≡ false → Row.CalledFor n s
+pub called : (n : ℕ) (s : State) → fits (n + 1) s ≡ false → Row.CalledFor n s
 called n s e = leb-false (n + 1) (spare s) e
 
-pub uncalled : (n : ℕ) (s : State) → fits n s ≡ true → Row.CalledFor n s → ⊥
+pub uncalled : (n : ℕ) (s : State) → fits (n + 1) s ≡ true → Row.CalledFor n s → ⊥
 uncalled n s e c = let l = leb-true (n + 1) (spare s) e in omega arith
 
 pub damaged-decides : (Y : Layout) (n : ℕ) (s : State) → Row.CalledFor n s
@@ -147,8 +147,8 @@ damaged-decides Y n s c =
     record { holds = λ e. (c, unsound-decides Y s .holds e); fails = λ e u. unsound-decides Y s .fails e (u .1) }
 
 pub room-decides : (n : ℕ) (s s′ : State) → Row.CalledFor n s
-    → Decides (not (fits n s′)) (Row.CalledFor n s × Row.CalledFor n s′)
+    → Decides (not (fits (n + 1) s′)) (Row.CalledFor n s × Row.CalledFor n s′)
 room-decides n s s′ c = record {
-  holds = λ e. (c, called n s′ (not-true (fits n s′) e));
-  fails = λ e u. uncalled n s′ (not-false (fits n s′) e) (u .1);
+  holds = λ e. (c, called n s′ (not-true (fits (n + 1) s′) e));
+  fails = λ e u. uncalled n s′ (not-false (fits (n + 1) s′) e) (u .1);
 }

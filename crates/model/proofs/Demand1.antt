@@ -112,6 +112,8 @@ module _ (Y : Layout) where
   rows-rise (Ask.RawWrite r f n) s = omega arith
   rows-rise (Ask.Same p q) s = omega arith
   rows-rise (Ask.Inspect r) s = omega arith
+  rows-rise (Ask.Write r) s = omega arith
+  rows-rise (Ask.Read r) s = omega arith
 
   pub demand1 : D1.Demand1 Y (machine Y)
   demand1 = record {

@@ -16,7 +16,7 @@ use Rattle.model.specs.Headers.{Layout}
 use Rattle.model.specs.Sessions.{step, machine, answers}
 use Rattle.model.specs.Words.{State, at, halfWords, otherFirst}
 use Rattle.model.proofs.Breadth.{breadth}
-use Rattle.model.proofs.Collected.{live-is, new-length, new-first, new-half, new-free, order-tile, new-header}
+use Rattle.model.proofs.Collected.{new-text, live-is, new-length, new-first, new-half, new-free, order-tile, new-header}
 use Rattle.model.proofs.Collected.{new-field, new-root, new-roots}
 use Rattle.model.proofs.CollectedSound.{new-tiled, becomes, reach-order, order-reach, traced-field, new-sound}
 use Rattle.model.proofs.Copies.{wordsBefore-nth}
@@ -85,6 +85,7 @@ module _ (Y : Layout) (s : State) (h : SoundTests Y s) where
     otherHalf = new-half Y s h;
     cleared = sound-zero Y s′ (new-sound Y s h);
     counts = live-is Y s h ∙ sizes-packed (order Y s) (λ x m. m);
+    sameText = new-text Y s;
     used = new-free Y s h ∙ ap (λ x. x + live Y s) (sym (new-first Y s h));
     again = tests-sound Y s′ (new-sound Y s h);
   }

@@ -27,6 +27,8 @@ use Rattle.model.proofs.Deciding.{length-decides, named-address, sound-
 use Rattle.model.proofs.Lists.{getD-same}
 use Rattle.model.proofs.PlainAnswers.{no-yes}
 use Rattle.model.proofs.Start.{fresh-good}
+use Rattle.model.proofs.TextWritten.{writes-text}
+use Rattle.model.proofs.TreeRead.{reads-now, reads-then}
 use Rattle.model.proofs.WordSorts.{parts-code, address-no-code}
 
 -- one of two answers by a test, and the condition that the test decides
@@ -52,6 +54,7 @@ fresh-clears s n =
       sameRoots = refl;
       halfA = refl;
       freeIs = refl;
+      sameText = refl;
     })
 
 module _ (Y : Layout) where
@@ -106,4 +109,7 @@ module _ (Y : Layout) where
     inspectCode = λ r s p e l. ap (λ o. o .answer) (inspects Y s r p) ∙ seen-code s (rootWord s r) e l;
     inspectObject = λ r s p n. ap (λ o. o .answer) (inspects Y s r p) ∙ seen-object s (rootWord s r) n;
     inspectLeaves = λ r s p. ap (λ o. o .left) (inspects Y s r p);
+    write = λ r s p. writes-text Y s r p;
+    readNow = λ r s t p i f. reads-now Y r s t p i f;
+    readThen = λ r s t p i c. reads-then Y r s t p i c;
   }

@@ -10,7 +10,7 @@ use Rattle.model.specs.Answers.{Outcome}
 use Rattle.model.specs.Graph.{Graph}
 use Rattle.model.specs.GraphCalls.{graphStep}
 use Rattle.model.proofs.GraphLeaving.{ofGraph, graph-step}
-use Rattle.model.proofs.PlainAnswers.{refused-same, done-plainly}
+use Rattle.model.proofs.PlainAnswers.{refused-same, plainly, done-plainly}
 use Rattle.model.proofs.Tests.{never}
 
 -- it refuses, if at all, with a refusal that a graph can give
@@ -28,8 +28,10 @@ graph-refuses c g = graph-step g Mild (record {
   copied = λ from to. done-mild;
   loaded = λ i f to vs e. done-mild;
   stored = λ i f from vs e. done-mild;
-  written = λ i f x ws. done-mild;
+  rawWritten = λ i f x ws. done-mild;
+  textWritten = λ t n k e. absurd (plainly (Says.Written n) refl k e);
   allocated = λ k n r. done-mild;
+  planted = λ t r. done-mild;
 }) c
 
 pub graph-room : (c : Call) (g : Graph) → graphStep c g .answer ≡ D3.noRoom → ⊥

@@ -1,7 +1,8 @@
 -- What a session call on the graph answers and leaves: a property of outcomes that each answer and each
 -- change of a call has holds of every call's outcome. One walk through the calls for every such property.
 use Prim.Native.Nat.{ℕ}
-use mathlib.Core.Path.{_≡_, refl}
+use native.Mathlib.Omega.{arith}
+use mathlib.Core.Path.{_≡_, refl, subst}
 use mathlib.Core.Bool.{Bool, true, false}
 use mathlib.Core.List.{List}
 use lib.ListN.{length, getD, set}
@@ -17,9 +18,17 @@ use Rattle.model.specs.Answers.{Outcome, says, refuse}
 use Rattle.model.specs.Graph.{Plain, integer, null, code, Value, plain, object, Object, traced, untraced, Graph, nth}
 use Rattle.model.specs.Graph.{rootValue, graphLive}
 use Rattle.model.specs.GraphCalls.{graphWithRoot, withObject, grown, sameValue, byKind, onObject, plainAnswer}
-use Rattle.model.specs.GraphCalls.{inspected, graphStep}
+use Rattle.model.specs.GraphCalls.{graphWithText, inspected, plainForm, objectForm, valueForm, graphStep}
+use Rattle.model.specs.Texts.{textless, Piece, Spelled, whole, broken, maxDepth, valuePieces, spelled, over, writes}
 use Rattle.model.proofs.PlainAnswers.{Plainly, plainly, either-plainly, object-plainly, plain-plainly}
+use Rattle.model.specs.GraphCalls.{graphPlanted, graphReads}
+use Rattle.model.specs.Reading as Reading
+use Rattle.model.specs.Reading.{Parsed, tree, parsed}
+use Rattle.model.specs.ReadFaults.{ReadFault, breach, cut, deep}
+use Rattle.model.specs.Trees.{Tree}
+use Rattle.model.proofs.ReadJudged.{first-read-fault}
 use Rattle.model.proofs.Tests.{cond-holds}
+use Rattle.model.proofs.Texts.{Faults, textless-same, pieces-faults, broken-fault}
 
 -- the refusals that a graph can give
 abbrev pub ofGraph : Refusal → Bool
@@ -32,6 +41,26 @@ ofGraph Why.Kind = true
 ofGraph Why.Field = true
 ofGraph Why.Damaged = false
 ofGraph Why.Room = false
+ofGraph Why.Value = true
+ofGraph Why.Deep = true
+ofGraph Why.Text = true
+
+abbrev Mild : Refusal → Type 0
+Mild k = ofGraph k ≡ true
+
+-- what has no text in a graph is VALUE
+form-mild : (g : Graph) (v : Value) (k : Refusal) → valueForm g v ≡ textless k → Mild k
+form-mild g (plain p) k e = plain-mild p k e
+  where
+    plain-mild : (p : Plain) (k : Refusal) → plainForm p ≡ textless k → Mild k
+    plain-mild (integer v) k e = let z : _≡_ {A = ℕ} 0 1 = cc in absurd (omega arith)
+    plain-mild null k e = subst Mild (textless-same Why.Value k e) refl
+    plain-mild (code w) k e = subst Mild (textless-same Why.Value k e) refl
+form-mild g (object i) k e = object-mild (nth g i) k e
+  where
+    object-mild : (b : Object) (k : Refusal) → objectForm b ≡ textless k → Mild k
+    object-mild (traced vs) k e = let z : _≡_ {A = ℕ} 0 1 = cc in absurd (omega arith)
+    object-mild (untraced ws) k e = subst Mild (textless-same Why.Value k e) refl
 
 -- the answers that change nothing, and the changes, each with what the call knows of its object
 pub record GraphKept (g : Graph) (P : Outcome Graph → Type 0) : Type 0 where
@@ -43,8 +72,10 @@ pub record GraphKept (g : Graph) (P : Outcome Graph → Type 0) : Type 0 where
       → P (says Says.Done (graphWithRoot g to (getD vs f (plain null))))
   pub stored : (i f from : ℕ) (vs : List Value) → nth g i ≡ traced vs
       → P (says Says.Done (withObject g i (traced (set vs f (rootValue g from)))))
-  pub written : (i f x : ℕ) (ws : List ℕ) → P (says Says.Done (withObject g i (untraced (set ws f x))))
+  pub rawWritten : (i f x : ℕ) (ws : List ℕ) → P (says Says.Done (withObject g i (untraced (set ws f x))))
+  pub textWritten : (t : List ℕ) (n : ℕ) → P (says (Says.Written n) (graphWithText t g))
   pub allocated : (k : Kind) (n r : ℕ) → P (says Says.Done (grown k n r g))
+  pub planted : (t : Tree) (r : ℕ) → P (says Says.Done (graphPlanted t r g))
 
 data Holds (P : Outcome Graph → Type 0) : Outcome Graph → Type 0 where
   holds : {o : Outcome Graph} → P o → Holds P o
@@ -73,6 +104,20 @@ module _ (g : Graph) (P : Outcome Graph → Type 0) (h : GraphKept g P) where
       by-kind (nth g i) _ _ (λ vs e. holds (h .answered _ (object-plainly Traced (length vs))))
       (λ ws. holds (h .answered _ (object-plainly Untraced (length ws))))
 
+  writes-holds : (ps : List Piece) (x : Spelled) → Faults Mild ps → spelled (length (g .text)) ps ≡ x
+      → Holds P (writes (λ t. graphWithText t g) g (g .text) x)
+  writes-holds ps (whole bs) m e = holds (h .textWritten (over bs (g .text)) (length bs))
+  writes-holds ps (broken k) m e = holds (h .refused k (broken-fault Mild refl (length (g .text)) ps k m e))
+
+  reads-holds : (r : ℕ) (x : Parsed) → parsed (g .text) ≡ x → Holds P (graphReads r g x)
+  reads-holds r (tree t) e = holds (h .planted t r)
+  reads-holds r (Reading.broken k) e = holds (h .refused k (fault-mild (first-read-fault (g .text) k e .isFault)))
+    where
+      fault-mild : {p : ℕ} {k : Refusal} → ReadFault (g .text) p k → Mild k
+      fault-mild (breach p l f) = refl
+      fault-mild (cut f) = refl
+      fault-mild (deep p l o n) = refl
+
   step-holds : (c : Call) → Holds P (graphStep c g)
   unfolding graphStep
   step-holds Ask.Collect = after _ Why.Root _ refl (holds (h .answered _ (plainly (Says.Live (graphLive g)) refl)))
@@ -96,11 +141,16 @@ module _ (g : Graph) (P : Outcome Graph → Type 0) (h : GraphKept g P) where
   step-holds (Ask.RawWrite r f x) =
       after _ Why.Root _ refl
       (on-object (rootValue g r) _ _ (λ i vs e. holds (h .refused Why.Kind refl))
-      (λ i ws. after _ Why.Field _ refl (holds (h .written i f x ws))))
+      (λ i ws. after _ Why.Field _ refl (holds (h .rawWritten i f x ws))))
   step-holds (Ask.Same r q) =
       after _ Why.Root _ refl
       (holds (h .answered _ (either-plainly (sameValue (rootValue g r) (rootValue g q)) Says.Yes Says.No refl refl)))
   step-holds (Ask.Inspect r) = after _ Why.Root _ refl (inspects (rootValue g r))
+  step-holds (Ask.Read r) = after _ Why.Root _ refl (reads-holds r (parsed (g .text)) refl)
+  step-holds (Ask.Write r) =
+      after _ Why.Root _ refl
+      (writes-holds (valuePieces (valueForm g) maxDepth (rootValue g r)) _
+      (pieces-faults (valueForm g) Mild refl (form-mild g) maxDepth (rootValue g r)) refl)
 
   pub graph-step : (c : Call) → P (graphStep c g)
   graph-step c = go (graphStep c g) (step-holds c)

@@ -1,13 +1,13 @@
 -- Every session call by the rows of its refusals: the first that applies is given, and what it then leaves.
-use Prim.Native.Nat.{ℕ, _%_}
+use Prim.Native.Nat.{ℕ, _+_, _%_}
 use native.Mathlib.Omega.{arith}
-use mathlib.Core.Path.{_≡_, refl}
+use mathlib.Core.Path.{_≡_, refl, sym, ap, _∙_}
 use mathlib.Core.Logic.{inl, inr}
 use mathlib.Core.Bool.{Bool, true, false}
 use mathlib.Core.List.{List, [], _∷_}
-use lib.Dec.{eqb}
+use lib.Dec.{leb, eqb}
 use lib.ListN.{length}
-use borrow.Author.Tests.{eqb-true, not-false}
+use borrow.Author.Tests.{leb-true, leb-false, eqb-true, not-false, not-true}
 use Rattle.model.specs.declared.Kind.{Kind}
 use Rattle.model.specs.declared.Kind.the-variants.{Traced, Untraced}
 use Rattle.model.specs.declared.Refusal.{Refusal}
@@ -20,7 +20,7 @@ use Rattle.model.specs.Calls as Calls
 use Rattle.model.specs.Answers.{Outcome, says, refuse, number}
 use Rattle.model.specs.Calls.{onField}
 use Rattle.model.specs.Admission.{noRoots, onRoots}
-use Rattle.model.specs.Changes.{rootWord, fits}
+use Rattle.model.specs.Changes.{rootWord, spare, fits}
 use Rattle.model.specs.Collection.{live, collected}
 use Rattle.model.specs.Conditions.{Decides, BadShape}
 use Rattle.model.specs.Demand1 as D1
@@ -31,13 +31,21 @@ use Rattle.model.specs.Sessions.{step}
 use Rattle.model.specs.Shape.{badShape}
 use Rattle.model.specs.Soundness.{sound}
 use Rattle.model.specs.Values.{isOdd, isNull, isCode}
-use Rattle.model.specs.Words.{State}
+use Rattle.model.specs.Texts.{Spelled, whole, broken, writes}
+use Rattle.model.specs.Trees.{Tree, treeWords}
+use Rattle.model.specs.Reading as Reading
+use Rattle.model.specs.Reading.{Parsed, tree, parsed}
+use Rattle.model.specs.ReadFaults.{IsText, ReadFault, breach, cut, deep}
+use Rattle.model.specs.Words.{State, withText}
 use Rattle.model.proofs.PlainAnswers.{not-room, Plainly, plainly, done-plainly, either-plainly, object-plainly}
 use Rattle.model.proofs.Conditions.{roots-decide, count-decides, range-decides, code-decides, object-decides, value-decides}
 use Rattle.model.proofs.Conditions.{kind-decides, field-decides, unsound-decides, called, uncalled, damaged-decides}
 use Rattle.model.proofs.Conditions.{room-decides}
 use Rattle.model.proofs.Deciding.{shape-decides}
+use Rattle.model.proofs.Shape.{Shaped, shaped}
 use Rattle.model.proofs.Tests.{cond-holds}
+use Rattle.model.proofs.ReadJudged.{tree-same, first-read-fault, parsed-text, text-parsed, no-read-fault}
+use Rattle.model.proofs.TextJudged.{first-rank, whole-none, broken-row, broken-not-room}
 use Rattle.model.proofs.WordSorts.{code-parts, other-address}
 
 -- what a call refused with k leaves: what it was lent, or the collection for ROOM
@@ -75,12 +83,16 @@ module _ (Y : Layout) (s : State) where
   judged-says a t p = by-none tt p
 
   -- SHAPE first, then ROOT
-  judged-roots : (named : List ℕ) (qs : List Row.Row) (o : Outcome State) → Judged Y s qs o
+  judged-shaped : (named : List ℕ) (qs : List Row.Row) (o : Outcome State) → (badShape s ≡ false → Judged Y s qs o)
       → Judged Y s (Row.admittedRows named s qs) (onRoots named s o)
-  judged-roots named qs o t =
+  judged-shaped named qs o t =
       judged-refuse (badShape s) Why.Shape (BadShape s) _ _ refl (shape-decides s) (λ e.
       judged-refuse (noRoots (length (s .roots)) named) Why.Root (Row.NoRoot s named) qs o refl
-      (roots-decide s named) (λ f. t))
+      (roots-decide s named) (λ f. t e))
+
+  judged-roots : (named : List ℕ) (qs : List Row.Row) (o : Outcome State) → Judged Y s qs o
+      → Judged Y s (Row.admittedRows named s qs) (onRoots named s o)
+  judged-roots named qs o t = judged-shaped named qs o (λ e. t)
 
   -- OBJECT, KIND, FIELD
   judged-field : (k : Kind) (r f : ℕ) (o : Outcome State) → Plainly (o .answer)
@@ -101,9 +113,63 @@ module _ (Y : Layout) (s : State) where
   code-no-value : (r : ℕ) → isCode (rootWord s r) ≡ true → Row.NoValue Y s r → ⊥
   code-no-value r e v = let l = code-parts (rootWord s r) e .1 in omega (arith, v .belowFloor)
 
+  -- write: the first fault, or none
+  judged-text : (r : ℕ) (h : Shaped s) (x : Spelled) → Calls.rootSpelled Y r s ≡ x
+      → Judged Y s (Row.ownRows Y (Ask.Write r) s) (writes (λ t. withText t s) s (s .text) x)
+  judged-text r h (whole bs) e = by-none (whole-none Y s h r bs e) (plainly (Says.Written (length bs)) refl)
+  judged-text r h (broken k) e = by-row k (broken-row Y s h r k e) refl (unchanged (broken-not-room Y s h r k e) refl)
+
+  -- read: the first fault; of the text of a tree, a change that needs its words
+  judged-broken : (r : ℕ) (k : Refusal) → parsed (s .text) ≡ Reading.broken k
+      → Judged Y s (Row.ownRows Y (Ask.Read r) s) (says (Says.Refused k) s)
+  judged-broken r k e = let f = first-read-fault (s .text) k e in by-fault f (f .isFault)
+    where
+      by-fault : {p : ℕ} {k : Refusal} → Row.FirstFault (ReadFault (s .text)) k → ReadFault (s .text) p k
+          → Judged Y s (Row.ownRows Y (Ask.Read r) s) (says (Says.Refused k) s)
+      by-fault f (breach p l v) = by-row Why.Value (inl (f, refl)) refl (unchanged (not-room Why.Value refl) refl)
+      by-fault f (cut v) = by-row Why.Value (inl (f, refl)) refl (unchanged (not-room Why.Value refl) refl)
+      by-fault f (deep p l o h) =
+          by-row Why.Deep
+          (inr ((λ g. let z = first-rank (ReadFault (s .text)) Why.Value Why.Deep g f in omega arith), inl (f, refl))) refl
+          (unchanged (not-room Why.Deep refl) refl)
+
+  judged-tree : (r : ℕ) (t : Tree) → parsed (s .text) ≡ tree t → Judged Y s (Row.ownRows Y (Ask.Read r) s) (Calls.reads Y r s (tree t))
+  judged-tree r t e =
+      let i = parsed-text (s .text) t e in
+      let one : (u : Tree) → IsText (s .text) u → u ≡ t = λ u q. tree-same u t (sym (text-parsed (s .text) u q) ∙ e) in
+      let none : (k : Refusal) → Row.FirstFault (ReadFault (s .text)) k → ⊥ = λ k f. no-read-fault (s .text) t e (f .isFault) in
+      judged-after _ _ _ (none Why.Value) (judged-after _ _ _ (none Why.Deep)
+      (cond-holds (Judged Y s _) (leb (treeWords t) (spare s)) _ _
+      (λ b.
+      let l = leb-true (treeWords t) (spare s) b in
+      let fits : (u : Tree) → IsText (s .text) u → Row.Short (treeWords u) s → ⊥ =
+      λ u q x. let z = ap treeWords (one u q) in omega arith in
+      by-none ((λ x. fits (x .0) (x .1) (x .2)), ((λ x. fits (x .0) (x .1) (x .2)), tt)) done-plainly)
+      (λ b.
+      let l = leb-false (treeWords t) (spare s) b in
+      judged-refuse _ Why.Damaged _ _ _ refl
+      (record {
+        holds = λ x. (t, i, l, unsound-decides Y s .holds x);
+        fails = λ x u. unsound-decides Y s .fails x (u .3);
+      })
+      (λ d.
+      judged-room _ _ _
+      (record {
+        holds = λ x. (t, i, l, leb-false (treeWords t) (spare (collected Y s)) (not-true (leb (treeWords t) (spare (collected Y s))) x));
+        fails = λ x u.
+            let y = leb-true (treeWords t) (spare (collected Y s)) (not-false (leb (treeWords t) (spare (collected Y s))) x) in
+            let z = ap treeWords (one (u .0) (u .1)) in
+            let w = u .3 in
+            omega arith;
+      }) done-plainly))))
+
+  judged-read : (r : ℕ) (x : Parsed) → parsed (s .text) ≡ x → Judged Y s (Row.ownRows Y (Ask.Read r) s) (Calls.reads Y r s x)
+  judged-read r (tree t) e = judged-tree r t e
+  judged-read r (Reading.broken k) e = judged-broken r k e
+
   pub step-judged : (c : Call) → Judged Y s (Row.rows Y c s) (step Y c s)
   unfolding step Calls.collect Calls.check Calls.allocate Calls.setInteger Calls.setNull Calls.setCode Calls.copy Calls.load Calls.store
-      Calls.rawRead Calls.rawWrite Calls.same Calls.inspect
+      Calls.rawRead Calls.rawWrite Calls.same Calls.inspect Calls.write Calls.read
   step-judged Ask.Collect =
       judged-roots [] _ _
       (judged-refuse _ Why.Damaged _ _ _ refl (unsound-decides Y s) (λ e. judged-says _ _ (plainly (Says.Live (live Y s)) refl)))
@@ -111,7 +177,7 @@ module _ (Y : Layout) (s : State) where
       judged-roots [] _ _ (judged-says _ s (either-plainly (sound Y s) Says.Sound Says.Unsound refl refl))
   step-judged (Ask.Allocate k n r) =
       judged-roots (r ∷ []) _ _ (judged-refuse _ Why.Count _ _ _ refl (count-decides n) (λ a.
-      cond-holds (Judged Y s _) (fits n s) _ _
+      cond-holds (Judged Y s _) (fits (n + 1) s) _ _
       (λ b. by-none ((λ c. uncalled n s b (c .0)), ((λ c. uncalled n s b (c .0)), tt)) done-plainly)
       (λ b.
       let c = called n s b in
@@ -139,3 +205,6 @@ module _ (Y : Layout) (s : State) where
       (λ c. by-none (code-no-value r c, tt) (plainly (Says.Code _) refl)) (λ c.
       judged-refuse _ Why.Object _ _ _ refl (value-decides Y s r (other-address (rootWord s r) a b c))
       (λ d. judged-says _ _ (object-plainly _ _))))))
+  step-judged (Ask.Read r) = judged-roots (r ∷ []) _ _ (judged-read r (parsed (s .text)) refl)
+  step-judged (Ask.Write r) =
+      judged-shaped (r ∷ []) _ _ (λ e. judged-text r (shaped s e) (Calls.rootSpelled Y r s) refl)

@@ -20,7 +20,10 @@ use Rattle.model.proofs.Keeping.{root-sound, word-sound}
 use Rattle.model.proofs.Leaving.{HasField, step-left}
 use Rattle.model.proofs.Members.{In}
 use Rattle.model.proofs.Placing.{zero-value, place-sound}
-use Rattle.model.proofs.Soundness.{SoundTests}
+use Rattle.model.specs.Texts.{maxDepth, over}
+use Rattle.model.proofs.LaidSound.{planted-sound}
+use Rattle.model.proofs.ReadJudged.{parsed-text}
+use Rattle.model.proofs.Soundness.{text-sound, SoundTests}
 use Rattle.model.proofs.Tests.{never}
 use Rattle.model.proofs.Values.{value-header, plain-value}
 use Rattle.model.proofs.WordSorts.{code-no-address}
@@ -45,11 +48,14 @@ module _ (Y : Layout) (s : State) (h : SoundTests Y s) where
           (h .values (index Y (rootWord s r)) f (is-header Traced r f g) (g .kind-is) (g .below));
       stored = λ r f from g l.
           word-sound Y s h (index Y (rootWord s r)) f (rootWord s from) (is-header Traced r f g) (g .below) (λ z. h .roots from l);
-      written = λ r f x g.
+      rawWritten = λ r f x g.
           word-sound Y s h (index Y (rootWord s r)) f x (is-header Untraced r f g) (g .below)
           (λ z. never (ap isTraced z) (ap isTraced (g .kind-is)));
+      textWritten = λ r bs l. text-sound Y s (over bs (s .text)) h;
     };
-    placedNow = λ k n r a l e. place-sound Y law s h k n r l (leb-true (n + 1) (spare s) e);
+    placedNow = λ k n r a l e. place-sound Y law s h k n l (leb-true (n + 1) (spare s) e) r;
     collectedNow = λ c e. new-sound Y s h;
-    placedThen = λ k n r e l f. place-sound Y law (collected Y s) (new-sound Y s h) k n r l (leb-true (n + 1) (spare (collected Y s)) f);
+    placedThen = λ k n r e l f. place-sound Y law (collected Y s) (new-sound Y s h) k n l (leb-true (n + 1) (spare (collected Y s)) f) r;
+    plantedNow = λ t r a e l. planted-sound Y law t maxDepth r s h (parsed-text (s .text) t e .fits) l;
+    plantedThen = λ t r e q l. planted-sound Y law t maxDepth r (collected Y s) (new-sound Y s h) (parsed-text (s .text) t q .fits) l;
   })

@@ -179,20 +179,23 @@ no-object-is-code Y near s n i l =
 
 -- ---- calls
 
-fresh-lengths : (s : State) → (length (fresh s .left .heap) ≡ length (s .heap)) × (fresh s .left .roots ≡ s .roots)
+fresh-lengths : (s : State)
+    → (length (fresh s .left .heap) ≡ length (s .heap)) × (fresh s .left .roots ≡ s .roots) × (fresh s .left .text ≡ s .text)
 unfolding fresh refuse
 fresh-lengths s =
     ⊎-elim
-    (λ (e : badLength (length (s .heap)) ≡ true). rw e (refl, refl))
-    (λ (e : badLength (length (s .heap)) ≡ false). rw e (length-replicate (length (s .heap)) 0, refl))
+    (λ (e : badLength (length (s .heap)) ≡ true). rw e (refl, refl, refl))
+    (λ (e : badLength (length (s .heap)) ≡ false). rw e (length-replicate (length (s .heap)) 0, refl, refl))
     (by-test (badLength (length (s .heap))))
 
 pub keeps-lengths : (Y : Layout) → Law.KeepsLengths (machine Y)
 keeps-lengths Y = record {
   heap = λ c s. step-lengths Y s c .0;
   roots = λ c s. step-lengths Y s c .1;
+  text = λ c s. step-lengths Y s c .2;
   freshHeap = λ s. fresh-lengths s .0;
   freshRoots = λ s. fresh-lengths s .1;
+  freshText = λ s. fresh-lengths s .2;
 }
 
 pub settles : Law.Settles

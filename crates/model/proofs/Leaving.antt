@@ -1,14 +1,14 @@
 -- What a session call leaves: a property that a state has, and that each change which a call can make
 -- keeps, holds of what any call leaves. The property may be another for each call. One walk through the calls for
 -- every such property.
-use Prim.Native.Nat.{ℕ, _≤_, _<_}
+use Prim.Native.Nat.{ℕ, _+_, _≤_, _<_}
 use mathlib.Core.Path.{_≡_, refl}
 use mathlib.Core.Bool.{Bool, true, false, not}
 use mathlib.Core.List.{List, [], _∷_}
 use lib.Dec.{leb}
 use lib.IntN.{ℤ}
 use lib.ListN.{length}
-use borrow.Author.Tests.{ltb-false, leb-false, not-false}
+use borrow.Author.Tests.{ltb-false, leb-true, leb-false, not-false}
 use Rattle.model.specs.declared.Kind.{Kind}
 use Rattle.model.specs.declared.Kind.the-variants.{Traced, Untraced}
 use Rattle.model.specs.declared.Refusal.{Refusal}
@@ -19,7 +19,10 @@ use Rattle.model.specs.Answers.{Outcome, refuse}
 use Rattle.model.specs.Calls as Calls
 use Rattle.model.specs.Calls.{isOfKind, onField}
 use Rattle.model.specs.Admission.{noRoots, onRoots}
-use Rattle.model.specs.Changes.{noRoot, rootWord, withRoot, withWord, fits, placed}
+use Rattle.model.specs.Changes.{noRoot, rootWord, withRoot, withWord, spare, fits, placed, planted}
+use Rattle.model.specs.Trees.{Tree, treeWords}
+use Rattle.model.specs.Reading as Reading
+use Rattle.model.specs.Reading.{Parsed, tree, parsed}
 use Rattle.model.specs.Collection.{collected}
 use Rattle.model.specs.Headers.{Layout}
 use Rattle.model.specs.Laws.{changesRecord, RecordStays}
@@ -29,7 +32,9 @@ use Rattle.model.specs.Sessions.{step, machine}
 use Rattle.model.specs.Shape.{badShape}
 use Rattle.model.specs.Soundness.{sound}
 use Rattle.model.specs.Values.{isOdd, isNull, isCode, inRange, tag}
-use Rattle.model.specs.Words.{State, at}
+use Rattle.model.specs.Words.{State, withText, at}
+use Rattle.model.specs.Texts.{Piece, Spelled, whole, broken, spelled, over, writes}
+use Rattle.model.proofs.Texts.{whole-fits}
 use Rattle.model.proofs.Objects.{kind-same}
 use Rattle.model.proofs.Tests.{cond-holds, or-none, never}
 
@@ -50,17 +55,22 @@ pub record Written (Y : Layout) (s : State) (P : Call → State → Type 0) : Ty
       → P (Ask.Load r f to) (withRoot s to (at (s .heap) (fieldIndex (index Y (rootWord s r)) f)))
   pub stored : (r f from : ℕ) → HasField Y s Traced r f → from < length (s .roots)
       → P (Ask.Store r f from) (withWord s (fieldIndex (index Y (rootWord s r)) f) (rootWord s from))
-  pub written : (r f x : ℕ) → HasField Y s Untraced r f
+  pub rawWritten : (r f x : ℕ) → HasField Y s Untraced r f
       → P (Ask.RawWrite r f x) (withWord s (fieldIndex (index Y (rootWord s r)) f) x)
+  pub textWritten : (r : ℕ) (bs : List ℕ) → length bs ≤ length (s .text) → P (Ask.Write r) (withText (over bs (s .text)) s)
 
 -- and those that do not
 pub record Kept (Y : Layout) (s : State) (P : Call → State → Type 0) : Type 0 where
   pub words : Written Y s P
-  pub placedNow : (k : Kind) (n r : ℕ) → badShape s ≡ false → n ≤ maxFields → fits n s ≡ true
+  pub placedNow : (k : Kind) (n r : ℕ) → badShape s ≡ false → n ≤ maxFields → fits (n + 1) s ≡ true
       → P (Ask.Allocate k n r) (placed Y k n r s)
   pub collectedNow : (c : Call) → sound Y s ≡ true → P c (collected Y s)
-  pub placedThen : (k : Kind) (n r : ℕ) → sound Y s ≡ true → n ≤ maxFields → fits n (collected Y s) ≡ true
+  pub placedThen : (k : Kind) (n r : ℕ) → sound Y s ≡ true → n ≤ maxFields → fits (n + 1) (collected Y s) ≡ true
       → P (Ask.Allocate k n r) (placed Y k n r (collected Y s))
+  pub plantedNow : (t : Tree) (r : ℕ) → badShape s ≡ false → parsed (s .text) ≡ tree t → treeWords t ≤ spare s
+      → P (Ask.Read r) (planted Y t r s)
+  pub plantedThen : (t : Tree) (r : ℕ) → sound Y s ≡ true → parsed (s .text) ≡ tree t → treeWords t ≤ spare (collected Y s)
+      → P (Ask.Read r) (planted Y t r (collected Y s))
 
 data Leaves (P : State → Type 0) : Outcome State → Type 0 where
   leaves : {o : Outcome State} → P (o .left) → Leaves P o
@@ -112,13 +122,21 @@ module _ (Y : Layout) (s : State) (P : State → Type 0) (p : P s) where
       cond-holds (Leaves P) (isCode (rootWord s r)) _ _ (λ e. leaves p) (λ e.
       after _ Why.Object _ (λ f. leaves p)))))
 
+  -- a text is written, or nothing is
+  writes-leaves : ((bs : List ℕ) → length bs ≤ length (s .text) → P (withText (over bs (s .text)) s))
+      → (ps : List Piece) (x : Spelled) → spelled (length (s .text)) ps ≡ x
+      → Leaves P (writes (λ t. withText t s) s (s .text) x)
+  writes-leaves f ps (whole bs) e = leaves (f bs (whole-fits (length (s .text)) ps bs e))
+  writes-leaves f ps (broken k) e = leaves p
+
 -- what may depend on the call as well
 module _ (Y : Layout) (s : State) (P : Call → State → Type 0) (p : (c : Call) → P c s) where
   written-leaves : Written Y s P → (c : Call) → changesRecord c ≡ false → Leaves (P c) (step Y c s)
   unfolding step Calls.check Calls.setInteger Calls.setNull Calls.setCode Calls.copy Calls.load Calls.store Calls.rawRead
-      Calls.rawWrite Calls.same
+      Calls.rawWrite Calls.same Calls.write
   written-leaves h Ask.Collect e = never refl e
   written-leaves h (Ask.Allocate k n r) e = never refl e
+  written-leaves h (Ask.Read r) e = never refl e
   written-leaves h Ask.Check e = on-roots Y s _ (p _) [] _ (λ a b. leaves (p Ask.Check))
   written-leaves h (Ask.SetInteger r v) e =
       on-roots Y s _ (p _) (r ∷ []) _ (λ a b.
@@ -142,9 +160,10 @@ module _ (Y : Layout) (s : State) (P : Call → State → Type 0) (p : (c : Call
       on-field Y s _ (p _) Untraced r f _ (legal-root s r b) (λ g. leaves (p (Ask.RawRead r f))))
   written-leaves h (Ask.RawWrite r f x) e =
       on-roots Y s _ (p _) (r ∷ []) _ (λ a b.
-      on-field Y s _ (p _) Untraced r f _ (legal-root s r b) (λ g. leaves (h .written r f x g)))
+      on-field Y s _ (p _) Untraced r f _ (legal-root s r b) (λ g. leaves (h .rawWritten r f x g)))
   written-leaves h (Ask.Same r q) e = on-roots Y s _ (p _) (r ∷ q ∷ []) _ (λ a b. leaves (p (Ask.Same r q)))
   written-leaves h (Ask.Inspect r) e = inspect-leaves Y s _ (p _) r
+  written-leaves h (Ask.Write r) e = on-roots Y s _ (p _) (r ∷ []) _ (λ a b. writes-leaves Y s _ (p _) (h .textWritten r) _ _ refl)
 
   collect-leaves : Kept Y s P → Leaves (P Ask.Collect) (Calls.collect Y s)
   unfolding Calls.collect
@@ -157,17 +176,33 @@ module _ (Y : Layout) (s : State) (P : Call → State → Type 0) (p : (c : Call
   allocate-leaves h k n r =
       on-roots Y s _ (p _) (r ∷ []) _ (λ a b. after Y s _ (p _) _ Why.Count _ (λ c.
       let small : n ≤ maxFields = ltb-false maxFields n c in
-      cond-holds (Leaves (P (Ask.Allocate k n r))) (fits n s) _ _
+      cond-holds (Leaves (P (Ask.Allocate k n r))) (fits (n + 1) s) _ _
       (λ d. leaves (h .placedNow k n r a small d))
       (λ d. after Y s _ (p _) _ Why.Damaged _ (λ e.
       let good = not-false (sound Y s) e in
       refuse-leaves (P (Ask.Allocate k n r)) _ Why.Room (collected Y s) _ (h .collectedNow (Ask.Allocate k n r) good) (λ f.
-      leaves (h .placedThen k n r good small (not-false (fits n (collected Y s)) f)))))))
+      leaves (h .placedThen k n r good small (not-false (fits (n + 1) (collected Y s)) f)))))))
+
+  reads-leaves : Kept Y s P → (r : ℕ) (x : Parsed) → parsed (s .text) ≡ x → badShape s ≡ false → Leaves (P (Ask.Read r)) (Calls.reads Y r s x)
+  reads-leaves h r (Reading.broken k) e a = leaves (p (Ask.Read r))
+  reads-leaves h r (tree t) e a =
+      cond-holds (Leaves (P (Ask.Read r))) (leb (treeWords t) (spare s)) _ _
+      (λ d. leaves (h .plantedNow t r a e (leb-true (treeWords t) (spare s) d)))
+      (λ d. after Y s _ (p _) _ Why.Damaged _ (λ f.
+      let good = not-false (sound Y s) f in
+      refuse-leaves (P (Ask.Read r)) _ Why.Room (collected Y s) _ (h .collectedNow (Ask.Read r) good) (λ u.
+      leaves (h .plantedThen t r good e
+      (leb-true (treeWords t) (spare (collected Y s)) (not-false (leb (treeWords t) (spare (collected Y s))) u))))))
+
+  read-leaves : Kept Y s P → (r : ℕ) → Leaves (P (Ask.Read r)) (Calls.read Y r s)
+  unfolding Calls.read
+  read-leaves h r = on-roots Y s _ (p _) (r ∷ []) _ (λ a b. reads-leaves h r (parsed (s .text)) refl a)
 
   step-leaves : Kept Y s P → (c : Call) → Leaves (P c) (step Y c s)
   unfolding step
   step-leaves h Ask.Collect = collect-leaves h
   step-leaves h (Ask.Allocate k n r) = allocate-leaves h k n r
+  step-leaves h (Ask.Read r) = read-leaves h r
   step-leaves h Ask.Check = written-leaves (h .words) Ask.Check refl
   step-leaves h (Ask.SetInteger r v) = written-leaves (h .words) (Ask.SetInteger r v) refl
   step-leaves h (Ask.SetNull r) = written-leaves (h .words) (Ask.SetNull r) refl
@@ -179,6 +214,7 @@ module _ (Y : Layout) (s : State) (P : Call → State → Type 0) (p : (c : Call
   step-leaves h (Ask.RawWrite r f x) = written-leaves (h .words) (Ask.RawWrite r f x) refl
   step-leaves h (Ask.Same p q) = written-leaves (h .words) (Ask.Same p q) refl
   step-leaves h (Ask.Inspect r) = written-leaves (h .words) (Ask.Inspect r) refl
+  step-leaves h (Ask.Write r) = written-leaves (h .words) (Ask.Write r) refl
 
   pub step-left : Kept Y s P → (c : Call) → P c (step Y c s .left)
   step-left h c = what-left (step Y c s) (step-leaves h c)
@@ -196,7 +232,8 @@ record-stays Y c s e =
       copied = λ from to l. refl;
       loaded = λ r f to g. refl;
       stored = λ r f from g l. refl;
-      written = λ r f x g. refl;
+      rawWritten = λ r f x g. refl;
+      textWritten = λ r bs l. refl;
     }) c e)
 
 pub inspect-stays : (Y : Layout) (r : ℕ) (s : State) → Calls.inspect Y r s .left ≡ s

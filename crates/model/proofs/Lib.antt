@@ -14,6 +14,12 @@ pub mod Headers
 pub mod PlainAnswers
 pub mod Refusing
 pub mod Telling
+pub mod Unseen
+pub mod Texts
+pub mod TextPlaces
+pub mod Numerals
+pub mod Reading
+pub mod ReadThrough
 -- the order of discovery, for heaps and graphs alike
 pub mod Visits
 pub mod Packed
@@ -48,6 +54,9 @@ pub mod AtP5
 -- the calls by their refusals: demand 1
 pub mod Rows
 pub mod Conditions
+pub mod TextFaults
+pub mod TextJudged
+pub mod ReadJudged
 pub mod Judged
 pub mod Demand1
 -- what the calls leave and look at
@@ -55,7 +64,13 @@ pub mod Leaving
 pub mod Lengths
 pub mod KeepSound
 pub mod Changed
+pub mod Laying
+pub mod LaidSound
 pub mod CallsPass
+pub mod TextWritten
+pub mod TreeRead
+pub mod TextsWritable
+pub mod TreeWritten
 pub mod Effects
 pub mod Pinned
 pub mod Looks
@@ -69,9 +84,13 @@ pub mod GraphClosed
 pub mod Represents
 pub mod CallsOnRoots
 pub mod CallsOnFields
+pub mod CallWrite
 pub mod CallCollect
 pub mod CallPlace
+pub mod LaidRepresents
+pub mod Room
 pub mod CallAllocate
+pub mod CallRead
 pub mod Session
 pub mod Start
 pub mod Standing
@@ -81,3 +100,5 @@ pub mod Rivals
 pub mod RivalsOfEffects
 pub mod RivalsOfLooks
 pub mod RivalsOfCode
+pub mod RivalsOfTexts
+pub mod RivalsOfReading

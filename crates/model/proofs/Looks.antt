@@ -9,7 +9,6 @@ use lib.Dec.{leb}
 use lib.ListN.{length, set, take, drop, length-take, length-drop}
 use lib.Seq.{getD-set-same, getD-set-other, getD-take, getD-drop, ext-getD}
 use borrow.Author.Tests.{leb-false}
-use Rattle.model.specs.declared.Record.{Record}
 use Rattle.model.specs.declared.Kind.{Kind}
 use Rattle.model.specs.declared.Kind.the-variants.{Traced, Untraced}
 use Rattle.model.specs.declared.Refusal.{Refusal}
@@ -24,7 +23,9 @@ use Rattle.model.specs.Admission.{noRoots, onRoots}
 use Rattle.model.specs.Answers.{Outcome, says, refuse}
 use Rattle.model.specs.Calls as Calls
 use Rattle.model.specs.Calls.{isOfKind, onField}
-use Rattle.model.specs.Changes.{rootWord, placed}
+use Rattle.model.specs.Changes.{rootWord, placed, planted}
+use Rattle.model.specs.Trees.{Tree, leaf, node, count}
+use Rattle.model.specs.Reading.{tree, parsed}
 use Rattle.model.specs.Collection.{collected}
 use Rattle.model.specs.Headers.{Layout}
 use Rattle.model.specs.Looks as L
@@ -34,20 +35,25 @@ use Rattle.model.specs.Shape.{badShapeOf, badShape}
 use Rattle.model.specs.Soundness.{headers}
 use Rattle.model.specs.Values.{isOdd, isNull, isCode, tag}
 use Rattle.model.specs.Window.{window, shown}
-use Rattle.model.specs.Words.{State, stateOf, withHeap, at, free}
+use Rattle.model.specs.Words.{State, withHeap, at, free}
 use Rattle.model.proofs.Collected.{new-roots}
 use Rattle.model.proofs.Deciding.{sound-tests}
 use Rattle.model.proofs.Demand2.{collects}
 use Rattle.model.proofs.KeepSound.{is-header}
 use Rattle.model.proofs.Laws.{window-law}
+use Rattle.model.proofs.Laying.{laid-lays}
 use Rattle.model.proofs.Leaving.{step-left}
+use Rattle.model.proofs.ReadJudged.{parsed-text}
 use Rattle.model.proofs.Members.{in-mem}
 use Rattle.model.proofs.Soundness.{SoundTests}
 use Rattle.model.proofs.Tests.{same?}
 
 -- outcomes that differ in their heaps at most
-but-heap : {a : Answer} {H H′ R : List ℕ} {q : Record} → L.Alike (says a (stateOf H R q)) (says a (stateOf H′ R q))
-but-heap = record { answer = refl; roots = refl; «record» = refl }
+but-heap : {a : Answer} {s : State} {H : List ℕ} → L.Alike (says a (withHeap H s)) (says a s)
+but-heap = record { answer = refl; roots = refl; «record» = refl; text = refl }
+
+same-alike : {o : Outcome State} → L.Alike o o
+same-alike = record { answer = refl; roots = refl; «record» = refl; text = refl }
 
 -- ---- two heaps of one length
 
@@ -120,10 +126,10 @@ module _ (Y : Layout) (s : State) (H : List ℕ) (len : length H ≡ length (s .
 
   sees : (c : Call) → L.Agrees Y s H (L.sight c) → Alike (step Y c t) (step Y c s)
   unfolding step Calls.collect Calls.check Calls.allocate Calls.setInteger Calls.setNull Calls.setCode Calls.copy Calls.load
-      Calls.store Calls.rawRead Calls.rawWrite Calls.same Calls.inspect
-  sees Ask.Collect g = rw g but-heap
-  sees Ask.Check g = rw g but-heap
-  sees (Ask.Allocate k n r) g = rw g but-heap
+      Calls.store Calls.rawRead Calls.rawWrite Calls.same Calls.inspect Calls.write Calls.read
+  sees Ask.Collect g = rw g same-alike
+  sees Ask.Check g = rw g same-alike
+  sees (Ask.Allocate k n r) g = rw g same-alike
   sees (Ask.SetInteger r v) g =
       roots-alike (r ∷ []) _ _ (refuse-alike _ _ Why.Range _ _ refl (λ e. but-heap))
   sees (Ask.SetNull r) g = roots-alike (r ∷ []) _ _ but-heap
@@ -133,12 +139,12 @@ module _ (Y : Layout) (s : State) (H : List ℕ) (len : length H ≡ length (s .
   sees (Ask.Same r q) g = roots-alike (r ∷ q ∷ []) _ _ but-heap
   sees (Ask.Load r f to) g =
       roots-alike (r ∷ to ∷ []) _ _
-      (field-alike r g Traced f _ _ (λ l. record { answer = refl; roots = ap (λ w. set (s .roots) to w) (g .fields f l); «record» = refl }))
+      (field-alike r g Traced f _ _ (λ l. record { answer = refl; roots = ap (λ w. set (s .roots) to w) (g .fields f l); «record» = refl; text = refl }))
   sees (Ask.Store r f from) g =
       roots-alike (r ∷ from ∷ []) _ _ (field-alike r g Traced f _ _ (λ l. but-heap))
   sees (Ask.RawRead r f) g =
       roots-alike (r ∷ []) _ _
-      (field-alike r g Untraced f _ _ (λ l. record { answer = ap Says.Number (g .fields f l); roots = refl; «record» = refl }))
+      (field-alike r g Untraced f _ _ (λ l. record { answer = ap Says.Number (g .fields f l); roots = refl; «record» = refl; text = refl }))
   sees (Ask.RawWrite r f x) g =
       roots-alike (r ∷ []) _ _ (field-alike r g Untraced f _ _ (λ l. but-heap))
   sees (Ask.Inspect r) g =
@@ -147,7 +153,9 @@ module _ (Y : Layout) (s : State) (H : List ℕ) (len : length H ≡ length (s .
       (choose-alike (isNull (rootWord s r)) _ _ _ _ but-heap
       (choose-alike (isCode (rootWord s r)) _ _ _ _ but-heap
       (refuse-alike _ _ Why.Object _ _ (ap not (same-names r g)) (λ e.
-      record { answer = rw (same-kind r g, same-count r g); roots = refl; «record» = refl })))))
+      record { answer = rw (same-kind r g, same-count r g); roots = refl; «record» = refl; text = refl })))))
+  sees (Ask.Write r) g = rw g same-alike
+  sees (Ask.Read r) g = rw g same-alike
 
 -- ---- where a root's word comes from
 
@@ -185,6 +193,21 @@ module _ (Y : Layout) (s : State) (h : SoundTests Y s) where
   placed-then k n r =
       set-from (collected Y s .roots) r (address Y (free (collected Y s))) (new-roots Y s h) (collected-from _) L.placedThen
 
+  planted-from : (t : Tree) (r : ℕ) → parsed (s .text) ≡ tree t → Come (Ask.Read r) (planted Y t r s .roots)
+  unfolding planted placed
+  planted-from (leaf v) r e = set-root r (tag v) (L.text r v refl (parsed-text (s .text) (leaf v) e))
+  planted-from (node g) r e =
+      subst (Come (Ask.Read r)) (sym (laid-lays Y g (free s + 1) (placed Y Traced (count g) r s) .sameRoots))
+      (set-root r (address Y (free s)) L.placed)
+
+  planted-then : (t : Tree) (r : ℕ) → parsed (s .text) ≡ tree t → Come (Ask.Read r) (planted Y t r (collected Y s) .roots)
+  unfolding planted placed
+  planted-then (leaf v) r e =
+      set-from (collected Y s .roots) r (tag v) (new-roots Y s h) (collected-from _) (L.text r v refl (parsed-text (s .text) (leaf v) e))
+  planted-then (node g) r e =
+      subst (Come (Ask.Read r)) (sym (laid-lays Y g (free (collected Y s) + 1) (placed Y Traced (count g) r (collected Y s)) .sameRoots))
+      (set-from (collected Y s .roots) r (address Y (free (collected Y s))) (new-roots Y s h) (collected-from _) L.placedThen)
+
   enters : (c : Call) → Come c (step Y c s .left .roots)
   enters = step-left Y s (λ c t. Come c (t .roots)) old (record {
     words = record {
@@ -197,11 +220,14 @@ module _ (Y : Layout) (s : State) (h : SoundTests Y s) where
           (L.field (index Y (rootWord s r)) f (in-mem (index Y (rootWord s r)) (headers Y s)
           (is-header Y s h Traced r f g)) (g .kind-is) (g .below));
       stored = λ r f from g l. old _;
-      written = λ r f x g. old _;
+      rawWritten = λ r f x g. old _;
+      textWritten = λ r bs l. old _;
     };
     placedNow = λ k n r a l e. placed-from k n r;
     collectedNow = λ c e. collected-from c;
     placedThen = λ k n r e l f. placed-then k n r;
+    plantedNow = λ t r a e l. planted-from t r e;
+    plantedThen = λ t r e q l. planted-then t r q;
   })
 
 pub looks : (Y : Layout) → L.Looks Y (machine Y)

@@ -1,5 +1,5 @@
 -- Demand 2 leaves no choice: what a collection may leave of a state is one state, and L one number.
-use Prim.Native.Nat.{ℕ, zero, suc, _+_, _-_, _/_, _≤_, _<_}
+use Prim.Native.Nat.{ℕ, zero, suc, _+_, _-_, _≤_, _<_}
 use native.Mathlib.Omega.{arith}
 use mathlib.Core.Path.{_≡_, sym, ap, _∙_, subst}
 use mathlib.Core.Logic.{inl, inr, ⊎-elim}
@@ -104,6 +104,7 @@ module _ (Y : Layout) (s : State) where
         (λ r l. let n : r < length (s .roots) = omega (arith, c .rootCount) in
         became-same (at (s .roots) r) _ _ (c .root r n) (c′ .root r n)))
         (same-record (t .«record») (t′ .«record») same-half same-free)
+        (c .sameText ∙ sym (c′ .sameText))
 
 pub no-choice : (Y : Layout) → D.NoChoice Y
 no-choice Y s t t′ L L′ c c′ = (one-state Y s t t′ L L′ c c′, same-live Y s t t′ L L′ c c′)

@@ -25,20 +25,26 @@ use Rattle.model.specs.Headers.{Layout}
 use Rattle.model.specs.Objects.{fieldIndex, names}
 use Rattle.model.specs.Refusals as Row
 use Rattle.model.specs.Sessions.{Machine, step, machine}
+use Rattle.model.specs.ReadFaults.{IsText}
+use Rattle.model.specs.Trees.{Tree, leaf, node, count, treeWords}
 use Rattle.model.specs.Shape.{badLength}
 use Rattle.model.specs.Soundness.{sound}
 use Rattle.model.specs.Values.{isOdd, isNull, isCode}
 use Rattle.model.specs.Words.{State, at, free}
 use Rattle.model.proofs.CallsPass.{fails-test}
 use Rattle.model.proofs.Conditions.{value-decides}
-use Rattle.model.proofs.Deciding.{length-decides, names-decides, sound-decides}
+use Rattle.model.proofs.Deciding.{length-decides, shape-decides, names-decides, sound-decides}
 use Rattle.model.proofs.Demand1.{demand1}
 use Rattle.model.proofs.Demand2.{demand2}
 use Rattle.model.proofs.Effects.{effects}
 use Rattle.model.proofs.Judged.{Left, unchanged, recollected, Judged, by-row, by-none, step-judged}
+use Rattle.model.proofs.Laying.{Same, laid-same}
 use Rattle.model.proofs.NoChoice.{no-choice}
 use Rattle.model.proofs.Same.{same-record, same-state, same-outcome}
+use Rattle.model.proofs.Shape.{shaped}
 use Rattle.model.proofs.Tests.{by-test, decide, same?}
+use Rattle.model.proofs.TextFaults.{one-text}
+use Rattle.model.proofs.TreeRead.{read-text}
 use Rattle.model.proofs.WordSorts.{code-parts, other-address}
 
 -- ---- each change leaves one state
@@ -54,14 +60,14 @@ one-root : (s : State) (r w : ℕ) (t t′ : State) → E.RootChanged s r w t �
 one-root s r w t t′ c c′ =
     same-state t t′ (c .sameHeap ∙ sym (c′ .sameHeap))
     (same-at (t .roots) (t′ .roots) r (c .count ∙ sym (c′ .count)) (c .word ∙ sym (c′ .word)) (λ q d. c .others q d ∙ sym (c′ .others q d)))
-    (c .sameRecord ∙ sym (c′ .sameRecord))
+    (c .sameRecord ∙ sym (c′ .sameRecord)) (c .sameText ∙ sym (c′ .sameText))
 
 one-word : (s : State) (i w : ℕ) (t t′ : State) → E.WordChanged s i w t → E.WordChanged s i w t′ → t ≡ t′
 one-word s i w t t′ c c′ =
     same-state t t′
     (same-at (t .heap) (t′ .heap) i (c .sameLength ∙ sym (c′ .sameLength)) (c .word ∙ sym (c′ .word))
     (λ j d. c .others j d ∙ sym (c′ .others j d)))
-    (c .sameRoots ∙ sym (c′ .sameRoots)) (c .sameRecord ∙ sym (c′ .sameRecord))
+    (c .sameRoots ∙ sym (c′ .sameRoots)) (c .sameRecord ∙ sym (c′ .sameRecord)) (c .sameText ∙ sym (c′ .sameText))
 
 cleared-once : (s t t′ : State) → E.Cleared s t → E.Cleared s t′ → t ≡ t′
 cleared-once s t t′ c c′ =
@@ -69,8 +75,52 @@ cleared-once s t t′ c c′ =
     (ext-getD 0 (t .heap) (t′ .heap) (c .sameLength ∙ sym (c′ .sameLength)) (λ i l. c .zeros i ∙ sym (c′ .zeros i)))
     (c .sameRoots ∙ sym (c′ .sameRoots))
     (same-record (t .«record») (t′ .«record») (c .halfA ∙ sym (c′ .halfA)) (c .freeIs ∙ sym (c′ .freeIs)))
+    (c .sameText ∙ sym (c′ .sameText))
+
+one-written : (s : State) (bs : List ℕ) (t t′ : State) → E.TextWritten s bs t → E.TextWritten s bs t′ → t ≡ t′
+one-written s bs t t′ c c′ =
+    same-state t t′ (c .sameHeap ∙ sym (c′ .sameHeap)) (c .sameRoots ∙ sym (c′ .sameRoots)) (c .sameRecord ∙ sym (c′ .sameRecord))
+    (ext-getD 0 (t .text) (t′ .text) (c .sameLength ∙ sym (c′ .sameLength))
+    (λ i l.
+    ⊎-elim (λ (a : i < length bs). c .bytes i a ∙ sym (c′ .bytes i a)) (λ (a : length bs ≤ i). c .others i a ∙ sym (c′ .others i a))
+    (decide i (length bs))))
+
+-- of two trees at one place: where they end, the word of each, and the words between
+tree-same : (Y : Layout) (H H′ : List ℕ) (t : Tree) (w w′ b e e′ : ℕ) → E.Planted Y H t w b e → E.Planted Y H′ t w′ b e′
+    → (e ≡ e′) × (w ≡ w′) × Same Y H H′ b e
+tree-same Y H H′ (leaf v) w w′ b e e′ l m = (l .1 ∙ sym (m .1), l .0 ∙ sym (m .0), λ j x y. absurd (let z = l .1 in omega arith))
+tree-same Y H H′ (node g) w w′ b e e′ l m =
+    let q = laid-same Y H H′ g (b + 1) (b + (count g + 1)) e e′ (l .2) (m .2) in (
+      q .0,
+      l .0 ∙ sym (m .0),
+      λ j x y.
+          ⊎-elim
+          (λ (u : j < b + (count g + 1)).
+          ⊎-elim (λ (a : b < j). q .1 j (omega arith) (omega arith))
+          (λ (a : j ≤ b). let z : j ≡ b = omega arith in ap (λ n. at H n) z ∙ l .1 ∙ sym (m .1) ∙ sym (ap (λ n. at H′ n) z))
+          (decide b j))
+          (λ (u : b + (count g + 1) ≤ j). q .2 j u y)
+          (decide j (b + (count g + 1))),
+    )
 
 module _ (Y : Layout) where
+  one-tree : (t : Tree) (r : ℕ) (s u u′ : State) → E.NewTree Y t r s u → E.NewTree Y t r s u′ → u ≡ u′
+  one-tree t r s u u′ c c′ =
+      let q = tree-same Y (u .heap) (u′ .heap) t (rootWord u r) (rootWord u′ r) (free s) (free u) (free u′) (c .planted) (c′ .planted) in
+      let e = q .0 in
+      same-state u u′
+      (ext-getD 0 (u .heap) (u′ .heap) (c .sameLength ∙ sym (c′ .sameLength)) (λ i l.
+      ⊎-elim
+      (λ (a : i < free s). c .others i (inl a) ∙ sym (c′ .others i (inl a)))
+      (λ (a : free s ≤ i).
+      ⊎-elim (λ (b : i < free u). q .2 i a b)
+      (λ (b : free u ≤ i). c .others i (inr b) ∙ sym (c′ .others i (inr (omega arith))))
+      (decide i (free u)))
+      (decide i (free s))))
+      (same-at (u .roots) (u′ .roots) r (c .rootCount ∙ sym (c′ .rootCount)) (q .1) (λ n d. c .otherRoots n d ∙ sym (c′ .otherRoots n d)))
+      (same-record (u .«record») (u′ .«record») (c .sameHalf ∙ sym (c′ .sameHalf)) e)
+      (c .sameText ∙ sym (c′ .sameText))
+
   one-object : (k : Kind) (n r : ℕ) (s t t′ : State) → E.NewObject Y k n r s t → E.NewObject Y k n r s t′ → t ≡ t′
   one-object k n r s t t′ c c′ =
       same-state t t′
@@ -78,6 +128,7 @@ module _ (Y : Layout) where
       (same-at (t .roots) (t′ .roots) r (c .rootCount ∙ sym (c′ .rootCount)) (c .root ∙ sym (c′ .root))
       (λ q d. c .otherRoots q d ∙ sym (c′ .otherRoots q d)))
       (same-record (t .«record») (t′ .«record») (c .sameHalf ∙ sym (c′ .sameHalf)) (c .freeIs ∙ sym (c′ .freeIs)))
+      (c .sameText ∙ sym (c′ .sameText))
     where
       outside : (i : ℕ) → (i < free s) ⊎ (free s + (n + 1) ≤ i) → at (t .heap) i ≡ at (t′ .heap) i
       outside i o = c .others i o ∙ sym (c′ .others i o)
@@ -160,6 +211,27 @@ module _ (Y : Layout) where
         (by-test (isNull w)))
         (by-test (isOdd w))
 
+    write-same : (r : ℕ) (s : State) → E.Passes Y (Ask.Write r) s → M .step (Ask.Write r) s ≡ N .step (Ask.Write r) s
+    write-same r s p =
+        let x = m .effects .write r s p in
+        let y = n .effects .write r s p in
+        let h = shaped s (fails-test (shape-decides s) (p .0)) in
+        let e : x .0 ≡ y .0 = one-text Y s h (x .1) (y .1) in
+        same-outcome (M .step (Ask.Write r) s) (N .step (Ask.Write r) s)
+        (x .2 ∙ ap (λ bs. Says.Written (length bs)) e ∙ sym (y .2))
+        (one-written s (y .0) _ _ (subst (λ bs. E.TextWritten s bs (M .step (Ask.Write r) s .left)) e (x .3)) (y .3))
+
+    read-same : (r : ℕ) (s : State) (t : Tree) → E.Passes Y (Ask.Read r) s → IsText (s .text) t
+        → M .step (Ask.Read r) s ≡ N .step (Ask.Read r) s
+    read-same r s t p i =
+        ⊎-elim
+        (λ (c : spare s < treeWords t).
+        both-done _ _ (E.NewTree Y t r (collected Y s)) (one-tree t r (collected Y s))
+        (m .effects .readThen r s t p i c) (n .effects .readThen r s t p i c))
+        (λ (c : treeWords t ≤ spare s).
+        both-done _ _ (E.NewTree Y t r s) (one-tree t r s) (m .effects .readNow r s t p i c) (n .effects .readNow r s t p i c))
+        (decide (spare s) (treeWords t))
+
     collect-same : (s : State) → E.Passes Y Ask.Collect s → M .step Ask.Collect s ≡ N .step Ask.Collect s
     collect-same s p =
         let ok : C.Sound Y s =
@@ -186,6 +258,8 @@ module _ (Y : Layout) where
         both-say _ _ s Says.Unsound (x .checkUnsound s p .1 h) (y .checkUnsound s p .1 h) (x .checkLeaves s p)
         (y .checkLeaves s p))
         (by-test (sound Y s))
+    passed-same (Ask.Write r) s p = write-same r s p
+    passed-same (Ask.Read r) s p = let q = read-text Y r s p in read-same r s (q .0) p (q .1)
     passed-same (Ask.Allocate k f r) s p =
         ⊎-elim
         (λ (c : spare s < f + 1).

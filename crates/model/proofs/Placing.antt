@@ -1,5 +1,5 @@
 -- A new object at the free index keeps a state sound.
-use Prim.Native.Nat.{ℕ, suc, _+_, _*_, _-_, _/_, _%_, _≤_, _<_}
+use Prim.Native.Nat.{ℕ, suc, _+_, _*_, _-_, _%_, _≤_, _<_}
 use native.Mathlib.Omega.{arith}
 use native.Mathlib.Nat.{add-zero}
 use mathlib.Core.Path.{_≡_, refl, sym, ap, _∙_, subst}
@@ -8,11 +8,11 @@ use mathlib.Core.Bool.{true, not, _&&_}
 use mathlib.Core.List.{List, [], _∷_, _++_}
 use lib.Dec.{eqb}
 use lib.IntN.{pos}
-use lib.ListN.{length, replicate, length-set, length-replicate, getD-replicate}
-use lib.Seq.{sets, length-sets, getD-set-same, getD-set-other}
+use lib.ListN.{length, replicate, length-replicate, getD-replicate}
+use lib.Seq.{sets, length-sets}
 use Rattle.model.specs.declared.Kind.{Kind}
 use Rattle.model.specs.declared.Kind.the-variants.{Traced}
-use Rattle.model.specs.Changes.{spare, placed}
+use Rattle.model.specs.Changes.{spare, appended, placed}
 use Rattle.model.specs.Discovery.{mem}
 use Rattle.model.specs.Graph.{null}
 use Rattle.model.specs.Headers.{Layout, WritesBoth}
@@ -21,13 +21,13 @@ use Rattle.model.specs.Objects.{address, index, kind, fieldCount, size}
 use Rattle.model.specs.Soundness.{tiles, headersFrom, headers, isValue}
 use Rattle.model.specs.Values.{isAddress}
 use Rattle.model.specs.Words.{State, at, halfWordsOf, halfWords, other, firstOf, firstWord, otherFirst, free}
-use Rattle.model.proofs.Keeping.{tile}
+use Rattle.model.proofs.Keeping.{tile, root-sound}
 use Rattle.model.proofs.Lists.{sets-before, sets-in, sets-past}
 use Rattle.model.proofs.Members.{In, in-append-left, in-snoc, in-last}
 use Rattle.model.proofs.Retiling.{tiles-snoc}
 use Rattle.model.proofs.Shape.{first-in, halves-apart}
 use Rattle.model.proofs.Soundness.{SoundTests}
-use Rattle.model.proofs.Tests.{decide, same?, or-cases, or-left, or-right, and-both, both-and}
+use Rattle.model.proofs.Tests.{decide, or-cases, or-left, or-right, and-both, both-and}
 use Rattle.model.proofs.Values.{address-value}
 
 module _ (Y : Layout) where
@@ -47,10 +47,10 @@ module _ (Y : Layout) where
   unfolding isValue
   zero-value hs = refl
 
-module _ (Y : Layout) (law : WritesBoth Y) (s : State) (h : SoundTests Y s) (k : Kind) (n r : ℕ) (small : n ≤ maxFields)
+module _ (Y : Layout) (law : WritesBoth Y) (s : State) (h : SoundTests Y s) (k : Kind) (n : ℕ) (small : n ≤ maxFields)
     (fit : n + 1 ≤ spare s) where
   abbrev s⁺ : State
-  s⁺ = placed Y k n r s
+  s⁺ = appended Y k n s
 
   abbrev vs : List ℕ
   vs = Y .header k n ∷ replicate n 0
@@ -64,124 +64,109 @@ module _ (Y : Layout) (law : WritesBoth Y) (s : State) (h : SoundTests Y s) (k :
   in-heap : free s + length vs ≤ length (s .heap)
   in-heap = let b = first-in s (h .shape) in omega (arith, fits, vs-length)
 
-  pub place-length : length (s⁺ .heap) ≡ length (s .heap)
-  unfolding placed
-  place-length = length-sets (s .heap) (free s) vs
+  pub append-length : length (s⁺ .heap) ≡ length (s .heap)
+  append-length = length-sets (s .heap) (free s) vs
 
-  place-room : halfWords (s⁺ .heap) ≡ halfWords (s .heap)
-  place-room = ap halfWordsOf place-length
+  append-room : halfWords (s⁺ .heap) ≡ halfWords (s .heap)
+  append-room = ap halfWordsOf append-length
 
-  place-first : firstWord s⁺ ≡ firstWord s
-  unfolding placed
-  place-first = ap (λ x. firstOf x (s .«record» .half)) place-room
+  append-first : firstWord s⁺ ≡ firstWord s
+  append-first = ap (λ x. firstOf x (s .«record» .half)) append-room
 
-  place-other-first : otherFirst s⁺ ≡ otherFirst s
-  unfolding placed
-  place-other-first = ap (λ x. firstOf x (other (s .«record» .half))) place-room
+  append-other-first : otherFirst s⁺ ≡ otherFirst s
+  append-other-first = ap (λ x. firstOf x (other (s .«record» .half))) append-room
 
-  pub place-header : at (s⁺ .heap) (free s) ≡ Y .header k n
-  unfolding placed
-  place-header =
+  pub append-header : at (s⁺ .heap) (free s) ≡ Y .header k n
+  append-header =
       ap (λ x. at (sets (s .heap) (free s) vs) x) (sym (add-zero (free s)))
       ∙ sets-in (s .heap) (free s) vs 0 in-heap (omega (arith, vs-length))
 
-  place-zero : (f : ℕ) → f < n → at (sets (s .heap) (free s) vs) (free s + suc f) ≡ 0
-  place-zero f l = sets-in (s .heap) (free s) vs (suc f) in-heap (omega (arith, vs-length)) ∙ getD-replicate n f 0 0 l
+  append-zero : (f : ℕ) → f < n → at (sets (s .heap) (free s) vs) (free s + suc f) ≡ 0
+  append-zero f l = sets-in (s .heap) (free s) vs (suc f) in-heap (omega (arith, vs-length)) ∙ getD-replicate n f 0 0 l
 
   -- no other word changes
-  pub place-other : (j : ℕ) → (j ≡ free s → ⊥) → at (s⁺ .heap) j ≡ at (s .heap) j
-  unfolding placed
-  place-other j d =
+  pub append-other : (j : ℕ) → (j ≡ free s → ⊥) → at (s⁺ .heap) j ≡ at (s .heap) j
+  append-other j d =
       ⊎-elim
       (λ (l : j < free s). sets-before (s .heap) (free s) vs j l)
       (λ (l : free s ≤ j).
       ⊎-elim
       (λ (m : j < free s + length vs).
       let e : free s + suc (j - free s - 1) ≡ j = omega arith in
-      subst (λ x. at (sets (s .heap) (free s) vs) x ≡ 0) e (place-zero (j - free s - 1) (omega (arith, vs-length)))
+      subst (λ x. at (sets (s .heap) (free s) vs) x ≡ 0) e (append-zero (j - free s - 1) (omega (arith, vs-length)))
       ∙ sym (h .rest j l (omega (arith, fits, vs-length))))
       (λ (m : free s + length vs ≤ j). sets-past (s .heap) (free s) vs j m)
       (decide j (free s + length vs)))
       (decide j (free s))
 
-  pub place-size : size Y (s⁺ .heap) (free s) ≡ n + 1
-  place-size = ap (λ x. Y .countOf x + 1) place-header ∙ ap (λ x. x + 1) (law k .counts n small)
+  pub append-size : size Y (s⁺ .heap) (free s) ≡ n + 1
+  append-size = ap (λ x. Y .countOf x + 1) append-header ∙ ap (λ x. x + 1) (law k .counts n small)
 
-  place-both : (tiles Y (s⁺ .heap) (free s + (n + 1)) (free s + (n + 1) - firstWord s) (firstWord s) ≡ true)
+  append-both : (tiles Y (s⁺ .heap) (free s + (n + 1)) (free s + (n + 1) - firstWord s) (firstWord s) ≡ true)
       × (headersFrom Y (s⁺ .heap) (free s + (n + 1)) (free s + (n + 1) - firstWord s) (firstWord s) ≡ headers Y s ++ (free s ∷ []))
-  place-both =
+  append-both =
       tiles-snoc Y (s .heap) (s⁺ .heap) (free s) (free s + (n + 1)) (free s - firstWord s) (free s + (n + 1) - firstWord s)
       (firstWord s) (h .tiled)
-      (λ j m. place-other j (λ e. let t = tile Y s h j m .within in omega arith))
-      (ap (λ x. Y .isHeader x) place-header ∙ law k .clear n small)
-      (ap (λ x. free s + x) (sym place-size))
+      (λ j m. append-other j (λ e. let t = tile Y s h j m .within in omega arith))
+      (ap (λ x. Y .isHeader x) append-header ∙ law k .clear n small)
+      (ap (λ x. free s + x) (sym append-size))
       (omega (arith, h .shape .low))
 
-  pub place-free : free s⁺ ≡ free s + (n + 1)
-  unfolding placed
-  place-free = refl
+  pub append-free : free s⁺ ≡ free s + (n + 1)
+  append-free = refl
 
-  pub place-headers : headers Y s⁺ ≡ headers Y s ++ (free s ∷ [])
-  place-headers = rw (place-first, place-free) (place-both .1)
+  pub append-headers : headers Y s⁺ ≡ headers Y s ++ (free s ∷ [])
+  append-headers = rw (append-first, append-free) (append-both .1)
 
-  place-roots : length (s⁺ .roots) ≡ length (s .roots)
-  unfolding placed
-  place-roots = length-set (s .roots) r (address Y (free s))
-
-  place-root : (q : ℕ) → q < length (s .roots) → isValue Y (headers Y s ++ (free s ∷ [])) (at (s⁺ .roots) q) ≡ true
-  unfolding placed
-  place-root q l =
-      ⊎-elim
-      (λ (e : q ≡ r).
-      rw (e, getD-set-same (s .roots) r (address Y (free s)) 0 (omega arith))
-      (address-value Y (headers Y s ++ (free s ∷ [])) (free s) (in-last (free s) (headers Y s))))
-      (λ (d : q ≡ r → ⊥).
-      rw (getD-set-other (s .roots) r q (address Y (free s)) 0 d)
-      (value-more Y (headers Y s) (free s ∷ []) (at (s .roots) q) (h .roots q l)))
-      (same? q r)
-
-  place-value : (i f : ℕ) → In i (headers Y s ++ (free s ∷ [])) → kind Y (s⁺ .heap) i ≡ Traced
+  append-value : (i f : ℕ) → In i (headers Y s ++ (free s ∷ [])) → kind Y (s⁺ .heap) i ≡ Traced
       → f < fieldCount Y (s⁺ .heap) i
       → isValue Y (headers Y s ++ (free s ∷ [])) (at (s⁺ .heap) (i + 1 + f)) ≡ true
-  place-value i f m q l =
+  append-value i f m q l =
       ⊎-elim
       (λ (a : In i (headers Y s)).
       let t = tile Y s h i a .within in
-      let e = place-other i (λ z. omega arith) in
+      let e = append-other i (λ z. omega arith) in
       let c = ap (λ x. Y .countOf x) e in
-      rw (place-other (i + 1 + f) (λ z. omega arith))
+      rw (append-other (i + 1 + f) (λ z. omega arith))
       (value-more Y (headers Y s) (free s ∷ []) (at (s .heap) (i + 1 + f))
       (h .values i f a (sym (ap (λ x. Y .kindOf x) e) ∙ q) (omega arith))))
       (λ (a : i ≡ free s).
-      let c = place-size in
+      let c = append-size in
       let d : fieldCount Y (s⁺ .heap) i ≡ fieldCount Y (s⁺ .heap) (free s) = ap (λ x. fieldCount Y (s⁺ .heap) x) a in
       let z : f < n = omega arith in
-      rw (place-other (i + 1 + f) (λ y. omega arith), h .rest (i + 1 + f) (omega arith) (omega (arith, fits)))
+      rw (append-other (i + 1 + f) (λ y. omega arith), h .rest (i + 1 + f) (omega arith) (omega (arith, fits)))
       (zero-value Y (headers Y s ++ (free s ∷ []))))
       (in-snoc i (free s) (headers Y s) m)
 
-  pub place-sound : SoundTests Y s⁺
-  place-sound = record {
+  pub append-sound : SoundTests Y s⁺
+  append-sound = record {
     shape = record {
-      odd = place-length ∙ h .shape .odd ∙ ap (λ x. 2 * x + 1) (sym place-room);
-      pos = rw place-room (h .shape .pos);
-      small = rw place-room (h .shape .small);
-      few = rw place-roots (h .shape .few);
-      low = rw (place-first, place-free) (omega (arith, h .shape .low));
-      high = rw (place-first, place-room, place-free) fits;
+      odd = append-length ∙ h .shape .odd ∙ ap (λ x. 2 * x + 1) (sym append-room);
+      pos = rw append-room (h .shape .pos);
+      small = rw append-room (h .shape .small);
+      few = h .shape .few;
+      low = rw (append-first, append-free) (omega (arith, h .shape .low));
+      high = rw (append-first, append-room, append-free) fits;
     };
-    null = place-other 0 (λ e. let b = first-in s (h .shape) in omega (arith, h .shape .low)) ∙ h .null;
+    null = append-other 0 (λ e. let b = first-in s (h .shape) in omega (arith, h .shape .low)) ∙ h .null;
     idle = λ i l m.
-        let l′ : otherFirst s ≤ i = rw place-other-first at l in
-        let m′ : i < otherFirst s + halfWords (s .heap) = rw (place-other-first, place-room) at m in
-        place-other i
+        let l′ : otherFirst s ≤ i = rw append-other-first at l in
+        let m′ : i < otherFirst s + halfWords (s .heap) = rw (append-other-first, append-room) at m in
+        append-other i
         (λ e. ⊎-elim (λ (x : i < firstWord s). omega (arith, h .shape .low))
         (λ (x : firstWord s + halfWords (s .heap) ≤ i). omega (arith, fits)) (halves-apart s i l′ m′)) ∙ h .idle i l′ m′;
     rest = λ i l m.
-        let m′ : i < firstWord s + halfWords (s .heap) = rw (place-first, place-room) at m in
-        let l′ : free s + (n + 1) ≤ i = rw place-free at l in
-        place-other i (λ e. omega arith) ∙ h .rest i (omega arith) m′;
-    tiled = rw (place-first, place-free) (place-both .0);
-    roots = λ q l. rw place-headers (place-root q (let z = place-roots in omega arith));
-    values = λ i f m q l. rw place-headers (place-value i f (rw place-headers at m) q l);
+        let m′ : i < firstWord s + halfWords (s .heap) = rw (append-first, append-room) at m in
+        let l′ : free s + (n + 1) ≤ i = rw append-free at l in
+        append-other i (λ e. omega arith) ∙ h .rest i (omega arith) m′;
+    tiled = rw (append-first, append-free) (append-both .0);
+    roots = λ q l. rw append-headers (value-more Y (headers Y s) (free s ∷ []) (at (s .roots) q) (h .roots q l));
+    values = λ i f m q l. rw append-headers (append-value i f (rw append-headers at m) q l);
   }
+
+  -- and a root may get its address
+  pub place-sound : (r : ℕ) → SoundTests Y (placed Y k n r s)
+  unfolding placed
+  place-sound r =
+      root-sound Y s⁺ append-sound r (address Y (free s))
+      (rw append-headers (address-value Y (headers Y s ++ (free s ∷ [])) (free s) (in-last (free s) (headers Y s))))

@@ -36,6 +36,9 @@ no-zero Why.Kind e = omega arith
 no-zero Why.Field e = omega arith
 no-zero Why.Damaged e = omega arith
 no-zero Why.Room e = omega arith
+no-zero Why.Value e = omega arith
+no-zero Why.Deep e = omega arith
+no-zero Why.Text e = omega arith
 
 -- an answer that is no refusal: one whose refusal is told as 0
 abbrev pub Plainly : Answer → Type 0

@@ -13,7 +13,7 @@ use Rattle.model.specs.Answers.{Outcome, refuse}
 use Rattle.model.specs.Admission.{noRoots, onRoots}
 use Rattle.model.specs.Demand3 as D3
 use Rattle.model.specs.Graph.{Plain, integer, null, code, Value, plain, object, Object, traced, Graph, nth, rootValue}
-use Rattle.model.specs.GraphCalls.{onGraphRoots}
+use Rattle.model.specs.GraphCalls.{graphWithText, onGraphRoots}
 use Rattle.model.specs.Changes.{rootWord}
 use Rattle.model.specs.Headers.{Layout, Adjacent}
 use Rattle.model.specs.Limits.{codeFloor}
@@ -22,14 +22,14 @@ use Rattle.model.specs.Objects.{address, index, names}
 use Rattle.model.specs.Shape.{badShape}
 use Rattle.model.specs.Soundness.{headers, isValue}
 use Rattle.model.specs.Values.{isOdd, isNull, isAddress, isCode}
-use Rattle.model.specs.Words.{State, at}
-use Rattle.model.proofs.Deciding.{names-true, sound-tests}
+use Rattle.model.specs.Words.{State, withText, at}
+use Rattle.model.proofs.Deciding.{names-true, sound-tests, tests-sound}
 use Rattle.model.proofs.Integers.{tag-no-address}
 use Rattle.model.proofs.Keeping.{tile}
 use Rattle.model.proofs.Members.{In}
 use Rattle.model.proofs.Objects.{index-address, address-below}
 use Rattle.model.proofs.Shape.{unshaped, first-in}
-use Rattle.model.proofs.Soundness.{SoundTests}
+use Rattle.model.proofs.Soundness.{SoundTests, text-sound}
 use Rattle.model.proofs.Tests.{never, decide}
 use Rattle.model.proofs.Values.{address-value, plain-value}
 use Rattle.model.proofs.WordSorts.{parts-address, code-no-address, address-no-code}
@@ -76,6 +76,21 @@ module _ (Y : Layout) where
       shape-passes s g _ _ m
       (refuse-agrees (noRoots (length (s .roots)) named) (noRoots (length (g .roots)) named) Why.Root s g o q m
       (ap (λ n. noRoots n named) (m .count)) f)
+
+  -- other bytes
+  pub text-represents : (s : State) (g : Graph) → Represents Y s g → (t : List ℕ) → Represents Y (withText t s) (graphWithText t g)
+  text-represents s g m t = record {
+    ok = tests-sound Y (withText t s) (text-sound Y s t (parts m));
+    kept = m .kept;
+    headerOf = m .headerOf;
+    known = m .known;
+    head = m .head;
+    apart = m .apart;
+    count = m .count;
+    roots = m .roots;
+    holds = m .holds;
+    text = refl;
+  }
 
   -- a value's word is a value of the heap
   pub rep-value : (s : State) (g : Graph) (m : Represents Y s g) (v : Value) (w : ℕ) → Encodes Y (m .kept) (m .headerOf) v w

@@ -27,10 +27,10 @@ use Rattle.model.specs.Demand2 as D
 use Rattle.model.specs.Demand3 as D3
 use Rattle.model.specs.Discovery.{mem, visit, visits, packed, wordsBefore, found}
 use Rattle.model.specs.Graph.{totalWords, graphOrder, graphLive}
-use Rattle.model.specs.GraphCalls.{inspected, graphStep, graphAnswers, graphAfter}
+use Rattle.model.specs.GraphCalls.{inspected, graphStep, graphReplies, graphAfter}
 use Rattle.model.specs.Headers.{tuple}
 use Rattle.model.specs.Refusals as Row
-use Rattle.model.specs.Sessions.{step, Machine, answers, after}
+use Rattle.model.specs.Sessions.{step, Machine, Reply, alone, replies, after}
 use Rattle.model.specs.Shape.{badShapeOf, badShape}
 use Rattle.model.specs.Soundness.{tiles, headersFrom, isValue, fieldsAreValues, sound}
 use Rattle.model.specs.Words.{State, stateOf, halfWords, firstOf, firstWord, free}
@@ -53,6 +53,8 @@ pub data Sort : Type 0 where
   loads : Sort
   setsCode : Sort
   inspects : Sort
+  writes : Sort
+  reads : Sort
   others : Sort
 
 abbrev pub sort : Call → Sort
@@ -69,6 +71,8 @@ sort (Ask.RawRead r f) = others
 sort (Ask.RawWrite r f x) = others
 sort (Ask.SetCode r w) = setsCode
 sort (Ask.Inspect r) = inspects
+sort (Ask.Write r) = writes
+sort (Ask.Read r) = reads
 
 abbrev number : Sort → ℕ
 number collects = 0
@@ -77,7 +81,9 @@ number compares = 2
 number loads = 3
 number setsCode = 4
 number inspects = 5
-number others = 6
+number writes = 6
+number reads = 7
+number others = 8
 
 abbrev pub is : Sort → Call → Bool
 is k c = eqb (number (sort c)) (number k)
@@ -191,7 +197,7 @@ keepsWords =
     }
 
 -- three words, any record, and n null roots
-abbrev threeWords : (w n : ℕ) → n ≤ maxRoots → D3.Session
+abbrev pub threeWords : (w n : ℕ) → n ≤ maxRoots → D3.Session
 threeWords w n few = record {
   heap = replicate 3 w;
   S = 1;
@@ -202,8 +208,8 @@ threeWords w n few = record {
 }
 
 pub keeps-words-breaks-3 : D3.Demand3 tuple keepsWords → ⊥
-unfolding answers step Calls.collect refuse sound badShapeOf
-keeps-words-breaks-3 d = d .freshNeverDamaged (threeWords 7 0 (omega arith)) (Ask.Collect ∷ []) (List·Memᴰ·head refl)
+unfolding replies step Calls.collect refuse sound badShapeOf
+keeps-words-breaks-3 d = d .freshNeverDamaged (threeWords 7 0 (omega arith)) (alone Ask.Collect ∷ []) (List·Memᴰ·head refl)
 
 -- answers "done" to everything
 abbrev pub constant : Machine
@@ -213,10 +219,10 @@ done-null : Says.Done ≡ Says.Null → ⊥
 done-null e = let z : _≡_ {A = ℕ} 0 1 = cc in omega arith
 
 pub constant-breaks-3 : D3.Demand3 tuple constant → ⊥
-unfolding answers graphAnswers graphStep refuse inspected
+unfolding replies graphReplies graphStep refuse inspected
 constant-breaks-3 d =
-    done-null (ap (λ l. getD l 0 Says.Done)
-    (d .freshAnswers (threeWords 0 1 (omega arith)) (threeWords 0 1 (omega arith)) refl (omega arith) (Ask.Inspect 0 ∷ []) 1 unrefused .1))
+    done-null (ap (λ (l : List Reply). getD l 0 (record { answer = Says.Done; text = [] }) .answer)
+    (d .freshAnswers (threeWords 0 1 (omega arith)) (threeWords 0 1 (omega arith)) refl (omega arith) (alone (Ask.Inspect 0) ∷ []) 1 unrefused .1))
   where
     unrefused : List·Memᴰ D3.noRoom (Says.Done ∷ []) → ⊥
     unrefused m =
@@ -230,7 +236,7 @@ inB s = eqb (firstOf 1 (s .«record» .half)) 2
 
 unfoldable pub pretends : Call → State → Outcome State → Outcome State
 pretends Ask.Collect s o = says (Says.Live (free s - firstWord s)) s
-pretends (Ask.Allocate k n r) s o = cond (fits n s) o (says (Says.Refused Why.Room) s)
+pretends (Ask.Allocate k n r) s o = cond (fits (n + 1) s) o (says (Says.Refused Why.Room) s)
 pretends Ask.Check s o = o
 pretends (Ask.SetInteger r v) s o = o
 pretends (Ask.SetNull r) s o = o
@@ -242,17 +248,19 @@ pretends (Ask.RawRead r f) s o = o
 pretends (Ask.RawWrite r f x) s o = o
 pretends (Ask.Same r q) s o = o
 pretends (Ask.Inspect r) s o = o
+pretends (Ask.Write r) s o = o
+pretends (Ask.Read r) s o = o
 
 abbrev pub onlyOnce : Machine
 onlyOnce = changed (λ c s o. cond (inB s) (pretends c s o) o)
 
 pub only-once-breaks-3 : D3.Demand3 tuple onlyOnce → ⊥
-unfolding pretends step fresh answers after graphStep graphAfter D3.carriedOut graphLive graphOrder totalWords refuse inspected
+unfolding pretends step fresh replies after graphStep graphAfter D3.carriedOut graphLive graphOrder totalWords refuse inspected
     Calls.collect Calls.allocate Calls.setNull tuple sound badShapeOf tiles headersFrom isValue fieldsAreValues mem visit visits packed
     wordsBefore found wordLeads orderAt live rename copied placed
 only-once-breaks-3 d =
-    let calls = Ask.Allocate Traced 0 0 ∷ Ask.Collect ∷ Ask.SetNull 0 ∷ [] in
-    let x = d .freshRoom (threeWords 0 1 (omega arith)) calls (Ask.Allocate Traced 0 0) .0 refl in
+    let calls = map alone (Ask.Allocate Traced 0 0 ∷ Ask.Collect ∷ Ask.SetNull 0 ∷ []) in
+    let x = d .freshRoom (threeWords 0 1 (omega arith)) calls (alone (Ask.Allocate Traced 0 0)) .0 refl in
     let w : 1 ≡ x .words = some-same 1 (x .words) (x .needs) in
     let e : 1 < 0 + x .words = x .exceed in
     omega arith

@@ -103,6 +103,7 @@ fit x w (L.field i f m k l) =
 fit x w (L.integer to v c e) = inl (tag-odd v e)
 fit x w (L.null to c) = inr refl
 fit x w (L.code to v c e) = absurd (load-no-code to v c)
+fit x w (L.text to v c e) = inl (tag-odd v (e .fits))
 fit x w L.placed = address-fits (free (raw x))
 fit x w L.placedThen = address-fits (free (collected tuple (raw x)))
 

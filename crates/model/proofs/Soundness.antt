@@ -14,7 +14,7 @@ use Rattle.model.specs.Objects.{isTraced, kind, fieldCount, fieldWords}
 use Rattle.model.specs.Shape.{badShape}
 use Rattle.model.specs.Soundness.{all, span, tiles, headers, isValue, fieldsAreValues, sound}
 use Rattle.model.specs.Values.{isNull}
-use Rattle.model.specs.Words.{State, at, halfWords, firstWord, otherFirst, free}
+use Rattle.model.specs.Words.{State, withText, at, halfWords, firstWord, otherFirst, free}
 use Rattle.model.proofs.Members.{In, all-in, in-all}
 use Rattle.model.proofs.Objects.{kind-traced, field-at, fields-length}
 use Rattle.model.proofs.Shape.{Shaped, shaped, unshaped, first-in, other-in, halves-cover}
@@ -125,3 +125,24 @@ module _ (Y : Layout) where
       (⊎-elim (λ (z : i < 1). inr z) (λ (p : 1 ≤ i). inl p) (decide i 1)))
       (λ (l : length (s .heap) ≤ i). List·getD-eq-default (s .heap) 0 l)
       (decide i (length (s .heap)))
+
+-- ---- bytes that are lent
+
+-- no clause of soundness sees them
+pub text-sound : (Y : Layout) (s : State) (t : List ℕ) → SoundTests Y s → SoundTests Y (withText t s)
+text-sound Y s t h = record {
+  shape = record {
+    odd = h .shape .odd;
+    pos = h .shape .pos;
+    small = h .shape .small;
+    few = h .shape .few;
+    low = h .shape .low;
+    high = h .shape .high;
+  };
+  null = h .null;
+  idle = h .idle;
+  rest = h .rest;
+  tiled = h .tiled;
+  roots = h .roots;
+  values = h .values;
+}

@@ -77,7 +77,7 @@ module _ (Y : Layout) where
     objectAt i = objectOf (kind Y (s .heap) i) (fieldWords Y (s .heap) i)
 
     abbrev graph : Graph
-    graph = record { objects = map objectAt hs; roots = map valueOf (s .roots) }
+    graph = record { objects = map objectAt hs; roots = map valueOf (s .roots); text = s .text }
 
     -- a value's word is that of the value
     encodes : (w : ℕ) → w < 4_294_967_296 → C.Valid Y hs w → Encodes Y kept headerOf (valueOf w) w
@@ -129,6 +129,7 @@ module _ (Y : Layout) where
       headerOf = headerOf;
       known = λ x i. let l = below-in x (length hs) i in let z = length-map hs objectAt in omega arith;
       head = header-in;
+      text = refl;
       apart = λ x y i j e.
           distinct-once hs (headers-distinct (s .heap) (free s) (free s - firstWord s) (firstWord s) (h .tiled)) x y
           (below-in x (length hs) i) (below-in y (length hs) j) e;

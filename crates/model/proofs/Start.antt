@@ -18,7 +18,7 @@ use Rattle.model.specs.Limits.{maxWords}
 use Rattle.model.specs.Sessions.{machine}
 use Rattle.model.specs.Shape.{badLength}
 use Rattle.model.specs.Soundness.{headers}
-use Rattle.model.specs.Words.{State, stateOf, at, halfWords}
+use Rattle.model.specs.Words.{State, stateOf, withHeap, withRecord, at, halfWords}
 use Rattle.model.proofs.Deciding.{tests-sound}
 use Rattle.model.proofs.Lists.{getD-same}
 use Rattle.model.proofs.Members.{in-nil}
@@ -28,7 +28,7 @@ use Rattle.model.proofs.Soundness.{SoundTests}
 use Rattle.model.proofs.Tiling.{tiles-here, headers-here}
 
 pub fresh-good : (s : State) → badLength (length (s .heap)) ≡ false
-    → fresh s ≡ says Says.Done (stateOf (replicate (length (s .heap)) 0) (s .roots) freshRecord)
+    → fresh s ≡ says Says.Done (withRecord freshRecord (withHeap (replicate (length (s .heap)) 0) s))
 unfolding fresh refuse
 fresh-good s e = rw e
 
@@ -87,6 +87,7 @@ module _ (Y : Layout) (e : D3.Session) where
     count = roots-length ∙ sym (length-replicate (e .nullRoots) (plain null));
     roots = λ r l. rw (getD-same {A = Value} (e .nullRoots) r (plain null)) (refl, getD-same {A = ℕ} (e .nullRoots) r 0);
     holds = λ x i. in-nil x i;
+    text = refl;
   }
 
   pub begun-represents : Represents Y (D3.begun (machine Y) e) (emptyGraph (e .nullRoots))

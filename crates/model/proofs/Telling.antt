@@ -1,5 +1,5 @@
 -- Answers are read back from their numbers, so that equal numbers are equal answers.
-use Prim.Native.Nat.{ℕ}
+use Prim.Native.Nat.{ℕ, _+_}
 use mathlib.Core.Path.{_≡_, refl, sym, ap, _∙_}
 use mathlib.Core.Bool.{Bool, true, false, cond}
 use mathlib.Core.List.{List, [], _∷_}
@@ -19,8 +19,11 @@ use Rattle.model.specs.declared.Told.{Told}
 use Rattle.model.specs.Admission.{onRoots}
 use Rattle.model.specs.Answers.{Outcome, says, refuse, number, tells, told}
 use Rattle.model.specs.Calls as Calls
-use Rattle.model.specs.Calls.{onField, fresh}
-use Rattle.model.specs.Changes.{rootWord, fits}
+use Rattle.model.specs.Calls.{onField, fresh, withRoom, reads}
+use Rattle.model.specs.Changes.{rootWord, spare, placed, planted}
+use Rattle.model.specs.Trees.{treeWords}
+use Rattle.model.specs.Reading.{Parsed, tree, parsed}
+use Rattle.model.specs.Reading as Reading
 use Rattle.model.specs.Headers.{Layout}
 use Rattle.model.specs.Laws as Law
 use Rattle.model.specs.Sessions.{step, machine}
@@ -28,7 +31,8 @@ use Rattle.model.specs.Shape.{badLength}
 use Rattle.model.specs.Soundness.{sound}
 use Rattle.model.specs.Values.{isOdd, isNull, isCode}
 use Rattle.model.specs.Window.{shown, windowWord}
-use Rattle.model.specs.Words.{State, at}
+use Rattle.model.specs.Texts.{Spelled, whole, broken, writes}
+use Rattle.model.specs.Words.{State, withText, at}
 use Rattle.model.proofs.PlainAnswers.{no-zero}
 use Rattle.model.proofs.Tests.{cond-holds}
 
@@ -37,7 +41,8 @@ abbrev pub refusalOf : ℕ → Refusal
 refusalOf n =
     cond (eqb n 1) Why.Shape
     (cond (eqb n 2) Why.Root (cond (eqb n 3) Why.Count (cond (eqb n 4) Why.Range (cond (eqb n 5) Why.Object
-    (cond (eqb n 6) Why.Kind (cond (eqb n 7) Why.Field (cond (eqb n 8) Why.Damaged Why.Room)))))))
+    (cond (eqb n 6) Why.Kind (cond (eqb n 7) Why.Field (cond (eqb n 8) Why.Damaged (cond (eqb n 9) Why.Room
+    (cond (eqb n 10) Why.Value (cond (eqb n 11) Why.Deep Why.Text))))))))))
 
 -- what the numbers of a call say, where it is not refused
 abbrev pub own : Call → Told → Answer
@@ -57,13 +62,17 @@ own (Ask.Inspect r) t =
     cond (eqb (t .holds) 0) Says.Null (cond (eqb (t .holds) 1) (Says.Integer (t .integer))
     (cond (eqb (t .holds) 4) (Says.Code (t .value))
     (Says.Object (cond (eqb (t .holds) 2) Traced Untraced) (t .value))))
+own (Ask.Write r) t = Says.Written (t .length)
+own (Ask.Read r) t = Says.Done
 
 abbrev pub heard : Call → Told → Answer
 heard c t = cond (eqb (t .refusal) 0) (own c t) (Says.Refused (refusalOf (t .refusal)))
 
--- refusal and value are enough, but for inspect
-pub plain-heard : (c : Call) → ((r : ℕ) → c ≡ Ask.Inspect r → ⊥) → (t : Told)
-    → heard c t ≡ heard c (tells (t .refusal) 0 (t .value))
+-- refusal and value are enough, but for inspect and write
+abbrev pub Simple : Call → Type 0
+Simple c = ((r : ℕ) → c ≡ Ask.Inspect r → ⊥) × ((r : ℕ) → c ≡ Ask.Write r → ⊥)
+
+pub plain-heard : (c : Call) → Simple c → (t : Told) → heard c t ≡ heard c (tells (t .refusal) 0 (t .value))
 plain-heard Ask.Collect n t = refl
 plain-heard Ask.Check n t = refl
 plain-heard (Ask.Allocate k m r) n t = refl
@@ -76,7 +85,9 @@ plain-heard (Ask.Store r f from) n t = refl
 plain-heard (Ask.RawRead r f) n t = refl
 plain-heard (Ask.RawWrite r f x) n t = refl
 plain-heard (Ask.Same r q) n t = refl
-plain-heard (Ask.Inspect r) n t = absurd (n r refl)
+plain-heard (Ask.Inspect r) n t = absurd (n .0 r refl)
+plain-heard (Ask.Write r) n t = absurd (n .1 r refl)
+plain-heard (Ask.Read r) n t = refl
 
 -- a number is that of one refusal
 numbered : (k : Refusal) → refusalOf (number k) ≡ k
@@ -89,6 +100,9 @@ numbered Why.Kind = refl
 numbered Why.Field = refl
 numbered Why.Damaged = refl
 numbered Why.Room = refl
+numbered Why.Value = refl
+numbered Why.Deep = refl
+numbered Why.Text = refl
 
 pub numbers-apart : (j k : Refusal) → number j ≡ number k → j ≡ k
 numbers-apart j k e = sym (numbered j) ∙ ap refusalOf e ∙ numbered k
@@ -119,16 +133,29 @@ module _ (Y : Layout) (s : State) where
   either : (c : Call) (b : Bool) (x y : Answer) → heard c (told x) ≡ x → heard c (told y) ≡ y → Back c (says (cond b x y) s)
   either c b x y e f = back (cond-holds (λ a. heard c (told a) ≡ a) b x y (λ t. e) (λ t. f))
 
+  -- a change that needs words, of a call that answers "done"
+  room-back : (c : Call) (n : ℕ) (change : State → State) → heard c (told Says.Done) ≡ Says.Done → Back c (withRoom Y n change s)
+  room-back c n change e =
+      cond-holds (Back c) (leb n (spare s)) _ _ (λ f. back e)
+      (λ f. refuse-back c _ Why.Damaged s _ (refuse-back c _ Why.Room _ _ (back e)))
+
+  reads-back : (r : ℕ) (x : Parsed) → Back (Ask.Read r) (reads Y r s x)
+  reads-back r (tree t) = room-back (Ask.Read r) (treeWords t) (planted Y t r) refl
+  reads-back r (Reading.broken k) = back (refused-back (Ask.Read r) k)
+
+  writes-back : (r : ℕ) (x : Spelled) → Back (Ask.Write r) (writes (λ t. withText t s) s (s .text) x)
+  writes-back r (whole bs) = back refl
+  writes-back r (broken k) = back (refused-back (Ask.Write r) k)
+
   step-back : (c : Call) → Back c (step Y c s)
   unfolding step Calls.collect Calls.check Calls.allocate Calls.setInteger Calls.setNull Calls.setCode Calls.copy Calls.load
-      Calls.store Calls.rawRead Calls.rawWrite Calls.same Calls.inspect
+      Calls.store Calls.rawRead Calls.rawWrite Calls.same Calls.inspect Calls.write Calls.read
   step-back Ask.Collect = on-roots Ask.Collect [] _ (refuse-back Ask.Collect _ Why.Damaged s _ (back refl))
   step-back Ask.Check = on-roots Ask.Check [] _ (either Ask.Check (sound Y s) Says.Sound Says.Unsound refl refl)
   step-back (Ask.Allocate k n r) =
       on-roots (Ask.Allocate k n r) (r ∷ []) _
-      (refuse-back (Ask.Allocate k n r) _ Why.Count s _
-      (cond-holds (Back (Ask.Allocate k n r)) (fits n s) _ _ (λ e. back refl)
-      (λ e. refuse-back (Ask.Allocate k n r) _ Why.Damaged s _ (refuse-back (Ask.Allocate k n r) _ Why.Room _ _ (back refl)))))
+      (refuse-back (Ask.Allocate k n r) _ Why.Count s _ (room-back (Ask.Allocate k n r) (n + 1) (placed Y k n r) refl))
+  step-back (Ask.Read r) = on-roots (Ask.Read r) (r ∷ []) _ (reads-back r (parsed (s .text)))
   step-back (Ask.SetInteger r v) =
       on-roots (Ask.SetInteger r v) (r ∷ []) _ (refuse-back (Ask.SetInteger r v) _ Why.Range s _ (back refl))
   step-back (Ask.SetNull r) = on-roots (Ask.SetNull r) (r ∷ []) _ (back refl)
@@ -152,6 +179,7 @@ module _ (Y : Layout) (s : State) where
       cond-holds (Back (Ask.Inspect r)) (isNull (rootWord s r)) _ _ (λ f. back refl) (λ f.
       cond-holds (Back (Ask.Inspect r)) (isCode (rootWord s r)) _ _ (λ g. back refl) (λ g.
       refuse-back (Ask.Inspect r) _ Why.Object s _ (back (object-back r _ _))))))
+  step-back (Ask.Write r) = on-roots (Ask.Write r) (r ∷ []) _ (writes-back r (Calls.rootSpelled Y r s))
 
   pub read-back : (c : Call) → heard c (told (step Y c s .answer)) ≡ step Y c s .answer
   read-back c = go (step Y c s) (step-back c)
@@ -180,8 +208,8 @@ word-back H p f = number-back (leb (length (shown H p)) f) Why.Field (at (shown 
 apart : (c : Call) (a b : Answer) → heard c (told a) ≡ a → heard c (told b) ≡ b → told a ≡ told b → a ≡ b
 apart c a b e f q = sym e ∙ ap (heard c) q ∙ f
 
--- of refusal and value alone, but for inspect
-pub apart-by-two : (c : Call) (a b : Answer) → ((r : ℕ) → c ≡ Ask.Inspect r → ⊥) → heard c (told a) ≡ a
+-- of refusal and value alone, but for inspect and write
+pub apart-by-two : (c : Call) (a b : Answer) → Simple c → heard c (told a) ≡ a
     → heard c (told b) ≡ b
     → told a .refusal ≡ told b .refusal → told a .value ≡ told b .value → a ≡ b
 apart-by-two c a b n e f q v =

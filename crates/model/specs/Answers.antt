@@ -28,7 +28,7 @@ outcomeOf a H R = says (a .answer) (stateOf H R (a .«record»))
 unfoldable pub refuse : {L : Type 0} → Bool → Refusal → L → Outcome L → Outcome L
 refuse b k s next = cond b (says (Says.Refused k) s) next
 
--- the number of a refusal
+-- the number of a refusal. It is a name: the order in which refusals are given is `Refusals.rank`.
 abbrev pub number : Refusal → ℕ
 number Why.Shape = 1
 number Why.Root = 2
@@ -39,13 +39,20 @@ number Why.Kind = 6
 number Why.Field = 7
 number Why.Damaged = 8
 number Why.Room = 9
+number Why.Value = 10
+number Why.Deep = 11
+number Why.Text = 12
 
--- an answer in numbers: only an integer has a sign, so it has a place of its own
+-- an answer in numbers: only an integer has a sign, and only a text's length may need more than 32 bits, so that each of these
+-- has a place of its own
 abbrev pub tells : ℕ → ℕ → ℕ → Told
-tells k h v = record { refusal = k; holds = h; integer = pos 0; value = v }
+tells k h v = record { refusal = k; holds = h; integer = pos 0; value = v; length = 0 }
 
 abbrev pub tellsInteger : ℤ → Told
-tellsInteger v = record { refusal = 0; holds = 1; integer = v; value = 0 }
+tellsInteger v = record { refusal = 0; holds = 1; integer = v; value = 0; length = 0 }
+
+abbrev pub tellsLength : ℕ → Told
+tellsLength n = record { refusal = 0; holds = 0; integer = pos 0; value = 0; length = n }
 
 abbrev pub told : Answer → Told
 told Says.Done = tells 0 0 0
@@ -60,4 +67,5 @@ told (Says.Object Traced n) = tells 0 2 n
 told (Says.Object Untraced n) = tells 0 3 n
 told (Says.Code w) = tells 0 4 w
 told (Says.Number w) = tells 0 0 w
+told (Says.Written n) = tellsLength n
 told (Says.Refused k) = tells (number k) 0 0

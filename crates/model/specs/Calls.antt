@@ -1,8 +1,8 @@
--- The calls, each with its refusals in their order. Document 01, "The calls" and "Refusals and their order"; document 02, Q-1.
+-- The calls, each with its refusals in their order. Document 01, "The calls" and "Refusals and their order"; document 02, Q-1, Q-2.
 -- SHAPE and ROOT come first in each but fresh, by `onRoots` of Admission. The session of the calls is in Sessions, the window
 -- in Window.
-use Prim.Native.Nat.{ℕ}
-use mathlib.Core.Bool.{Bool, not, cond}
+use Prim.Native.Nat.{ℕ, _+_}
+use mathlib.Core.Bool.{Bool, not, cond, _||_}
 use mathlib.Core.List.{[], _∷_}
 use lib.Dec.{ltb, leb, eqb}
 use lib.ListN.{length, replicate}
@@ -14,16 +14,19 @@ use Rattle.model.specs.declared.Kind.the-variants.{Traced, Untraced}
 use Rattle.model.specs.declared.Refusal.the-variants as Why
 use Rattle.model.specs.declared.Answer.the-variants as Says
 use Rattle.model.specs.Limits.{maxFields}
-use Rattle.model.specs.Words.{State, withHeap, withRecord, at}
+use Rattle.model.specs.Words.{State, withHeap, withRecord, withText, at}
 use Rattle.model.specs.Values.{isOdd, isNull, isCode, inRange, tag, untag}
 use Rattle.model.specs.Headers.{Layout}
 use Rattle.model.specs.Shape.{badLength}
-use Rattle.model.specs.Objects.{isTraced, index, kind, fieldCount, fieldIndex, names}
+use Rattle.model.specs.Objects.{isTraced, index, kind, fieldCount, fieldIndex, fieldWords, names}
 use Rattle.model.specs.Soundness.{sound}
 use Rattle.model.specs.Collection.{live, collected}
 use Rattle.model.specs.Answers.{Outcome, says, refuse}
+use Rattle.model.specs.Texts.{Form, asInteger, asTuple, textless, maxDepth, valuePieces, Spelled, spelled, writes}
 use Rattle.model.specs.Admission.{onRoots}
-use Rattle.model.specs.Changes.{rootWord, withRoot, withWord, fits, placed}
+use Rattle.model.specs.Trees.{treeWords}
+use Rattle.model.specs.Reading.{Parsed, tree, broken, parsed}
+use Rattle.model.specs.Changes.{rootWord, withRoot, withWord, fits, placed, planted}
 
 -- half A, free index 1
 abbrev pub freshRecord : Record
@@ -81,18 +84,23 @@ module _ (Y : Layout) where
       (refuse (not (sound Y s)) Why.Damaged s
       (says (Says.Live (live Y s)) (collected Y s)))
 
-  -- a new object of n fields into the root `to`: if n + 1 words fit, they are placed; if not, it collects first and tries again
+  -- a change that needs n words: if they fit, it is made; if not, it collects first and tries again
+  abbrev pub withRoom : ℕ → (State → State) → State → Outcome State
+  withRoom n change s =
+      let changedNow = change s in
+      let s′ = collected Y s in
+      let changedThen = change s′ in
+      cond (fits n s) (says Says.Done changedNow)
+      (refuse (not (sound Y s)) Why.Damaged s
+      (refuse (not (fits n s′)) Why.Room s′
+      (says Says.Done changedThen)))
+
+  -- a new object of n fields, n + 1 words, into the root `to`
   unfoldable pub allocate : Kind → ℕ → ℕ → State → Outcome State
   allocate kind fields to s =
-      let placedNow = placed Y kind fields to s in
-      let s′ = collected Y s in
-      let placedThen = placed Y kind fields to s′ in
       onRoots (to ∷ []) s
       (refuse (ltb maxFields fields) Why.Count s
-      (cond (fits fields s) (says Says.Done placedNow)
-      (refuse (not (sound Y s)) Why.Damaged s
-      (refuse (not (fits fields s′)) Why.Room s′
-      (says Says.Done placedThen)))))
+      (withRoom (fields + 1) (placed Y kind fields to) s))
 
   -- OBJECT, KIND and FIELD in order: the word w names an object of kind k that has a field f
   abbrev pub onField : Kind → ℕ → ℕ → State → Outcome State → Outcome State
@@ -137,3 +145,28 @@ module _ (Y : Layout) where
       (cond (isCode w) (says (Says.Code w) s)
       (refuse (not (names Y s w)) Why.Object s
       (says (Says.Object (kind Y (s .heap) (index Y w)) (fieldCount Y (s .heap) (index Y w))) s)))))
+
+  -- what a word is to its text: VALUE where it is null, a code word or an untraced object, OBJECT where it is of no kind
+  unfoldable pub wordForm : State → ℕ → Form ℕ
+  wordForm s w =
+      cond (isOdd w) (asInteger (untag w))
+      (cond (isNull w || isCode w) (textless Why.Value)
+      (cond (not (names Y s w)) (textless Why.Object)
+      (cond (isTraced (kind Y (s .heap) (index Y w))) (asTuple (fieldWords Y (s .heap) (index Y w))) (textless Why.Value))))
+
+  -- the text of what a root holds, into the bytes that are lent
+  abbrev pub rootSpelled : ℕ → State → Spelled
+  rootSpelled root s = spelled (length (s .text)) (valuePieces (wordForm s) maxDepth (rootWord s root))
+
+  unfoldable pub write : ℕ → State → Outcome State
+  write root s =
+      onRoots (root ∷ []) s
+      (writes (λ t. withText t s) s (s .text) (rootSpelled root s))
+
+  -- the tree of a text, into the root `to`
+  abbrev pub reads : ℕ → State → Parsed → Outcome State
+  reads to s (tree t) = withRoom (treeWords t) (planted Y t to) s
+  reads to s (broken k) = says (Says.Refused k) s
+
+  unfoldable pub read : ℕ → State → Outcome State
+  read to s = onRoots (to ∷ []) s (reads to s (parsed (s .text)))

@@ -7,7 +7,7 @@ use denote.Triple.Both.{Both}
 use Rattle.model.specs.declared.Record.{Record}
 use Rattle.model.specs.declared.Answer.{Answer}
 use Rattle.model.specs.declared.Answered.{Answered}
-use Rattle.model.specs.Words.{State, stateOf}
+use Rattle.model.specs.Words.{State, stateOf, withText}
 use Rattle.model.specs.Answers.{Outcome, says}
 
 -- what such a name is: the reference at entry and at exit, with what lies behind it
@@ -25,9 +25,25 @@ leaves heap roots q = stateOf (heap .exit .now) (roots .exit .now) q
 abbrev pub outcome : Answered → Behind (List ℕ) → Behind (List ℕ) → Outcome State
 outcome r heap roots = says (r .answer) (leaves heap roots (r .«record»))
 
+-- of a call that is lent the bytes of a text too
+abbrev pub lentText : Behind (List ℕ) → Behind (List ℕ) → Record → Behind (List ℕ) → State
+lentText heap roots q text = withText (text .entry .now) (lent heap roots q)
+
+abbrev pub leavesText : Behind (List ℕ) → Behind (List ℕ) → Record → Behind (List ℕ) → State
+leavesText heap roots q text = withText (text .exit .now) (leaves heap roots q)
+
+abbrev pub outcomeText : Answered → Behind (List ℕ) → Behind (List ℕ) → Behind (List ℕ) → Outcome State
+outcomeText r heap roots text = says (r .answer) (leavesText heap roots (r .«record») text)
+
 -- of a thin call, whose record is lent too
 abbrev pub thinLent : Behind (List ℕ) → Behind (List ℕ) → Behind Record → State
 thinLent heap roots q = lent heap roots (q .entry .now)
 
 abbrev pub thinOutcome : Answer → Behind (List ℕ) → Behind (List ℕ) → Behind Record → Outcome State
 thinOutcome a heap roots q = says a (leaves heap roots (q .exit .now))
+
+abbrev pub thinLentText : Behind (List ℕ) → Behind (List ℕ) → Behind Record → Behind (List ℕ) → State
+thinLentText heap roots q text = lentText heap roots (q .entry .now) text
+
+abbrev pub thinOutcomeText : Answer → Behind (List ℕ) → Behind (List ℕ) → Behind Record → Behind (List ℕ) → Outcome State
+thinOutcomeText a heap roots q text = says a (leavesText heap roots (q .exit .now) text)

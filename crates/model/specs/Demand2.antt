@@ -87,6 +87,8 @@ module _ (Y : Layout) where
     pub sameLength : length (s′ .heap) ≡ length (s .heap)
     pub otherHalf : s′ .«record» .half ≡ other (s .«record» .half)
     pub cleared : (i : ℕ) → (i < firstWord s′) ⊎ (free s′ ≤ i) → at (s′ .heap) i ≡ 0
+    -- and no byte of a text that is lent
+    pub sameText : s′ .text ≡ s .text
     -- L is the sum of n + 1 over the reachable objects, and the free index less the half's first word
     pub counts : L ≡ sizes (s .heap) (order Y s)
     pub used : free s′ ≡ firstWord s′ + L

@@ -22,11 +22,13 @@ use Rattle.model.specs.Headers.{Layout}
 use Rattle.model.specs.Answers.{number, told}
 use Rattle.model.specs.Changes.{rootWord}
 use Rattle.model.specs.Conditions.{Sound}
-use Rattle.model.specs.Sessions.{Machine, answers, after}
+use Rattle.model.specs.Sessions.{Machine, Asked, asked, replies, answers, after}
 use Rattle.model.specs.Graph.{Value, plain, null, object, Object, traced, untraced, Graph, emptyGraph, nth, rootValue, graphLive}
-use Rattle.model.specs.GraphCalls.{graphStep, graphAnswers, graphAfter}
+use Rattle.model.specs.GraphCalls.{graphAsked, graphReplies, graphAfter}
 use Rattle.model.specs.Represents.{Represents}
 use Rattle.model.specs.Demand2.{EachOnce}
+use Rattle.model.specs.Trees.{treeWords}
+use Rattle.model.specs.Reading.{Parsed, tree, broken, parsed}
 
 -- ---- a session that begins with fresh
 
@@ -58,34 +60,41 @@ abbrev pub isNoRoom : Answer → Bool
 isNoRoom a = eqb (told a .refusal) (number Why.Room)
 
 -- the calls of a list that are not answered "no room"
-unfoldable pub carriedOut : Machine → List Call → State → List Call
+unfoldable pub carriedOut : Machine → List Asked → State → List Asked
 carriedOut M [] s = []
 carriedOut M (c ∷ cs) s =
-    let o = M .step c s in
+    let o = asked M c s in
     let rest = carriedOut M cs (o .left) in
     cond (isNoRoom (o .answer)) rest (c ∷ rest)
 
+-- the words that a tree of a text takes
+abbrev pub neededBy : Parsed → Option ℕ
+neededBy (tree t) = some (treeWords t)
+neededBy (broken k) = none
+
 -- the words that a call needs, of those that need any
-abbrev pub needed : Call → Option ℕ
-needed (Ask.Allocate _ fields _) = some (fields + 1)
-needed Ask.Collect = none
-needed Ask.Check = none
-needed (Ask.SetInteger _ _) = none
-needed (Ask.SetNull _) = none
-needed (Ask.SetCode _ _) = none
-needed (Ask.Copy _ _) = none
-needed (Ask.Load _ _ _) = none
-needed (Ask.Store _ _ _) = none
-needed (Ask.RawRead _ _) = none
-needed (Ask.RawWrite _ _ _) = none
-needed (Ask.Same _ _) = none
-needed (Ask.Inspect _) = none
+abbrev pub needed : Call → List ℕ → Option ℕ
+needed (Ask.Allocate _ fields _) text = some (fields + 1)
+needed (Ask.Read _) text = neededBy (parsed text)
+needed Ask.Collect text = none
+needed Ask.Check text = none
+needed (Ask.SetInteger _ _) text = none
+needed (Ask.SetNull _) text = none
+needed (Ask.SetCode _ _) text = none
+needed (Ask.Copy _ _) text = none
+needed (Ask.Load _ _ _) text = none
+needed (Ask.Store _ _ _) text = none
+needed (Ask.RawRead _ _) text = none
+needed (Ask.RawWrite _ _ _) text = none
+needed (Ask.Same _ _) text = none
+needed (Ask.Inspect _) text = none
+needed (Ask.Write _) text = none
 
 -- the graph carries the call out, and live words and needed words exceed a half of S words
-pub record Exceeds (S : ℕ) (g : Graph) (c : Call) : Type 0 where
-  pub unrefused : (k : Refusal) → graphStep c g .answer ≡ Says.Refused k → ⊥
+pub record Exceeds (S : ℕ) (g : Graph) (c : Asked) : Type 0 where
+  pub unrefused : (k : Refusal) → graphAsked c g .answer ≡ Says.Refused k → ⊥
   pub words : ℕ
-  pub needs : needed c ≡ some words
+  pub needs : needed (c .call) (c .text) ≡ some words
   pub exceed : S < graphLive g + words
 
 -- ---- the graph's live words
@@ -113,20 +122,21 @@ pub record Lists (g : Graph) (o : List ℕ) : Type 0 where
 -- ---- the demand
 
 module _ (M : Machine) where
-  -- k calls of any list, none of which the smaller heap answers "no room": both heaps and the graph answer the same
+  -- k calls of any list, each with bytes of its own, none of which the smaller heap answers "no room": both heaps and the graph
+  -- answer the same and leave the same bytes
   abbrev pub SameAnswers : State → State → Graph → Type 0
-  SameAnswers small large g = (cs : List Call) (k : ℕ) → (List·Memᴰ noRoom (take k (answers M cs small)) → ⊥)
-      → (take k (answers M cs small) ≡ take k (answers M cs large)) × (take k (answers M cs small) ≡ take k (graphAnswers cs g))
+  SameAnswers small large g = (cs : List Asked) (k : ℕ) → (List·Memᴰ noRoom (take k (answers M cs small)) → ⊥)
+      → (take k (replies M cs small) ≡ take k (replies M cs large)) × (take k (replies M cs small) ≡ take k (graphReplies cs g))
 
   -- after any list of calls, "no room" exactly when the graph's live words and the words needed exceed the half, which has S
   -- words; the graph is that of the calls carried out
   abbrev pub RoomExactly : ℕ → State → Graph → Type 0
-  RoomExactly S s g = (cs : List Call) (c : Call)
-      → (M .step c (after M cs s) .answer ≡ noRoom) ↔ Exceeds S (graphAfter (carriedOut M cs s) g) c
+  RoomExactly S s g = (cs : List Asked) (c : Asked)
+      → (asked M c (after M cs s) .answer ≡ noRoom) ↔ Exceeds S (graphAfter (carriedOut M cs s) g) c
 
   -- the refusal k is no answer to any list of calls
   abbrev pub Never : Refusal → State → Type 0
-  Never k s = (cs : List Call) → List·Memᴰ (Says.Refused k) (answers M cs s) → ⊥
+  Never k s = (cs : List Asked) → List·Memᴰ (Says.Refused k) (answers M cs s) → ⊥
 
 -- live words are the sum of n + 1 over the reachable objects of the graph: some list names each of them once, and every such list
 -- has that sum
@@ -150,7 +160,7 @@ pub record Demand3 (Y : Layout) (M : Machine) : Type 0 where
   pub neverDamaged : (s : State) (g : Graph) → Represents Y s g → Never M Why.Damaged s
   -- no session call leaves an unsound heap of a sound one, and it stands for the graph of the calls carried out
   pub keepsSound : (s : State) (c : Call) → Sound Y s → Sound Y (M .step c s .left)
-  pub stands : (s : State) (g : Graph) (cs : List Call) → Represents Y s g → Represents Y (after M cs s) (graphAfter (carriedOut M cs s) g)
+  pub stands : (s : State) (g : Graph) (cs : List Asked) → Represents Y s g → Represents Y (after M cs s) (graphAfter (carriedOut M cs s) g)
   -- every sound state stands for a graph
   pub every : (s : State) → OfWords s → Sound Y s → (g : Graph) × Represents Y s g
   -- what fresh begins stands for the empty graph
@@ -159,7 +169,7 @@ pub record Demand3 (Y : Layout) (M : Machine) : Type 0 where
   pub freshAnswers : (small large : Session) → small .nullRoots ≡ large .nullRoots → small .S ≤ large .S
       → SameAnswers M (begun M small) (begun M large) (emptyGraph (small .nullRoots))
   pub freshRoom : (e : Session) → RoomExactly M (e .S) (begun M e) (emptyGraph (e .nullRoots))
-  pub freshLive : (cs : List Call) (n : ℕ) → LiveWords (graphAfter cs (emptyGraph n))
-  pub staysSound : (e : Session) (cs : List Call) → Sound Y (after M cs (begun M e))
+  pub freshLive : (cs : List Asked) (n : ℕ) → LiveWords (graphAfter cs (emptyGraph n))
+  pub staysSound : (e : Session) (cs : List Asked) → Sound Y (after M cs (begun M e))
   pub freshNeverShape : (e : Session) → Never M Why.Shape (begun M e)
   pub freshNeverDamaged : (e : Session) → Never M Why.Damaged (begun M e)

@@ -96,7 +96,7 @@ ordered =
     ∷ one (copies 14 (4 ∷ 44 ∷ 52 ∷ 2 ∷ 21 ∷ 0 ∷ 0 ∷ []) (32 ∷ [])) Ask.Collect (gives 6) (fork 16 24 (4 ∷ []))
     ∷ []
 
--- ---- the lowest number that applies
+-- ---- the lowest rank that applies
 
 abbrev pub lowest : List Case
 lowest =

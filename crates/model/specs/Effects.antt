@@ -4,10 +4,12 @@
 use Prim.Native.Nat.{ℕ, _+_, _%_, _≤_, _<_}
 use mathlib.Core.Path.{_≡_}
 use mathlib.Core.Logic.{_⊎_, _↔_}
+use mathlib.Core.List.{List}
 use lib.IntN.{ℤ}
 use lib.ListN.{length}
 use Rattle.model.specs.declared.Half.the-variants.{A}
 use Rattle.model.specs.declared.Kind.{Kind}
+use Rattle.model.specs.declared.Kind.the-variants.{Traced}
 use Rattle.model.specs.declared.Answer.the-variants as Says
 use Rattle.model.specs.declared.Call.{Call}
 use Rattle.model.specs.declared.Call.the-variants as Ask
@@ -21,7 +23,11 @@ use Rattle.model.specs.Answers.{Outcome}
 use Rattle.model.specs.Changes.{rootWord, spare}
 use Rattle.model.specs.Sessions.{Machine}
 use Rattle.model.specs.Conditions.{BadLength, Names, Sound}
-use Rattle.model.specs.Refusals.{CalledFor, rows}
+use Rattle.model.specs.Texts.{maxDepth}
+use Rattle.model.specs.TextFaults.{HasText}
+use Rattle.model.specs.Trees.{Forest, end, leafThen, nodeThen, Tree, leaf, node, count, treeWords}
+use Rattle.model.specs.ReadFaults.{IsText}
+use Rattle.model.specs.Refusals.{Short, CalledFor, rows}
 use Rattle.model.specs.Demand1.{None, Demand1}
 use Rattle.model.specs.Demand2.{Demand2}
 
@@ -34,6 +40,7 @@ pub record RootChanged (s : State) (r w : ℕ) (t : State) : Type 0 where
   pub count : length (t .roots) ≡ length (s .roots)
   pub sameHeap : t .heap ≡ s .heap
   pub sameRecord : t .«record» ≡ s .«record»
+  pub sameText : t .text ≡ s .text
 
 -- one word of the heap changes, to w
 pub record WordChanged (s : State) (i w : ℕ) (t : State) : Type 0 where
@@ -42,6 +49,7 @@ pub record WordChanged (s : State) (i w : ℕ) (t : State) : Type 0 where
   pub sameLength : length (t .heap) ≡ length (s .heap)
   pub sameRoots : t .roots ≡ s .roots
   pub sameRecord : t .«record» ≡ s .«record»
+  pub sameText : t .text ≡ s .text
 
 -- a header and n zeros stand at the free index of s, and root r has got the address
 pub record NewObject (Y : Layout) (k : Kind) (n r : ℕ) (s t : State) : Type 0 where
@@ -54,6 +62,41 @@ pub record NewObject (Y : Layout) (k : Kind) (n r : ℕ) (s t : State) : Type 0 
   pub rootCount : length (t .roots) ≡ length (s .roots)
   pub sameHalf : t .«record» .half ≡ s .«record» .half
   pub freeIs : free t ≡ free s + (n + 1)
+  pub sameText : t .text ≡ s .text
+
+-- the first bytes are those of bs, and the others as they were
+pub record TextWritten (s : State) (bs : List ℕ) (t : State) : Type 0 where
+  pub room : length bs ≤ length (s .text)
+  pub bytes : (i : ℕ) → i < length bs → at (t .text) i ≡ at bs i
+  pub others : (i : ℕ) → length bs ≤ i → at (t .text) i ≡ at (s .text) i
+  pub sameLength : length (t .text) ≡ length (s .text)
+  pub sameHeap : t .heap ≡ s .heap
+  pub sameRoots : t .roots ≡ s .roots
+  pub sameRecord : t .«record» ≡ s .«record»
+
+-- the values of a tuple stand from index i on, integers as their words and tuples as the addresses of their objects; these stand from
+-- index b to index e in the order in which they are met, each with its header and all its fields before the objects that these name
+abbrev pub Laid : Layout → List ℕ → Forest → ℕ → ℕ → ℕ → Type 0
+Laid Y H end i b e = e ≡ b
+Laid Y H (leafThen v f) i b e = (at H i ≡ tag v) × Laid Y H f (i + 1) b e
+Laid Y H (nodeThen g f) i b e =
+    (at H i ≡ address Y b) × (at H b ≡ Y .header Traced (count g))
+    × ((c : ℕ) × Laid Y H g (b + 1) (b + (count g + 1)) c × Laid Y H f (i + 1) c e)
+
+-- so does a tree, of which a root holds the word w
+abbrev pub Planted : Layout → List ℕ → Tree → ℕ → ℕ → ℕ → Type 0
+Planted Y H (leaf v) w b e = (w ≡ tag v) × (e ≡ b)
+Planted Y H (node g) w b e = (w ≡ address Y b) × (at H b ≡ Y .header Traced (count g)) × Laid Y H g (b + 1) (b + (count g + 1)) e
+
+-- a tree stands at the free index of s, and root r has got it
+pub record NewTree (Y : Layout) (t : Tree) (r : ℕ) (s t′ : State) : Type 0 where
+  pub planted : Planted Y (t′ .heap) t (rootWord t′ r) (free s) (free t′)
+  pub others : (i : ℕ) → (i < free s) ⊎ (free t′ ≤ i) → at (t′ .heap) i ≡ at (s .heap) i
+  pub sameLength : length (t′ .heap) ≡ length (s .heap)
+  pub otherRoots : (q : ℕ) → (q ≡ r → ⊥) → rootWord t′ q ≡ rootWord s q
+  pub rootCount : length (t′ .roots) ≡ length (s .roots)
+  pub sameHalf : t′ .«record» .half ≡ s .«record» .half
+  pub sameText : t′ .text ≡ s .text
 
 -- all heap words are 0; half A, free index 1; the roots as they were
 pub record Cleared (s t : State) : Type 0 where
@@ -62,6 +105,7 @@ pub record Cleared (s t : State) : Type 0 where
   pub sameRoots : t .roots ≡ s .roots
   pub halfA : t .«record» .half ≡ A
   pub freeIs : free t ≡ 1
+  pub sameText : t .text ≡ s .text
 
 -- ---- the calls
 
@@ -131,6 +175,15 @@ module _ (Y : Layout) where
         → M .step (Ask.Inspect root) s .answer
         ≡ Says.Object (kind Y (s .heap) (index Y (rootWord s root))) (fieldCount Y (s .heap) (index Y (rootWord s root)))
     pub inspectLeaves : (root : ℕ) (s : State) → Passes (Ask.Inspect root) s → Leaves (M .step (Ask.Inspect root) s) s
+    -- write: the text of the root's value; its answer is the text's length, and no byte past the text changes
+    pub write : (root : ℕ) (s : State) → Passes (Ask.Write root) s
+        → (bs : List ℕ) × HasText Y s maxDepth (rootWord s root) bs × (M .step (Ask.Write root) s .answer ≡ Says.Written (length bs))
+        × TextWritten s bs (M .step (Ask.Write root) s .left)
+    -- read: a tree whose words fit is placed; if they do not, it collects first and tries again
+    pub readNow : (to : ℕ) (s : State) (t : Tree) → Passes (Ask.Read to) s → IsText (s .text) t → treeWords t ≤ spare s
+        → Done (M .step (Ask.Read to) s) (NewTree Y t to s)
+    pub readThen : (to : ℕ) (s : State) (t : Tree) → Passes (Ask.Read to) s → IsText (s .text) t → Short (treeWords t) s
+        → Done (M .step (Ask.Read to) s) (NewTree Y t to (collected Y s))
 
   -- ---- no machine has a choice
 

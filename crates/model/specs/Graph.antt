@@ -21,13 +21,15 @@ pub data Object : Type 0 where
   traced : List Value → Object
   untraced : List ℕ → Object
 
+-- the text is that of the bytes which a call is lent
 pub record Graph : Type 0 where
   pub objects : List Object
   pub roots : List Value
+  pub text : List ℕ
 
 -- no objects, and n null roots
 abbrev pub emptyGraph : ℕ → Graph
-emptyGraph n = record { objects = []; roots = replicate n (plain null) }
+emptyGraph n = record { objects = []; roots = replicate n (plain null); text = [] }
 
 -- the object with number i; past the end one without fields, which no session meets
 abbrev pub nth : Graph → ℕ → Object

@@ -46,6 +46,8 @@ changesRecord (Ask.RawRead object field) = false
 changesRecord (Ask.RawWrite object field number) = false
 changesRecord (Ask.Same one other) = false
 changesRecord (Ask.Inspect root) = false
+changesRecord (Ask.Write root) = false
+changesRecord (Ask.Read to) = true
 
 -- every other leaves it as it was, refused or not: a host that keeps its own has the one that the next call wants
 abbrev pub RecordStays : Machine → Type 0
@@ -100,8 +102,10 @@ NoObjectIsCode Y = (s : State) → (BadShape s → ⊥) → (i : ℕ) → i < le
 pub record KeepsLengths (M : Machine) : Type 0 where
   pub heap : (c : Call) (s : State) → length (M .step c s .left .heap) ≡ length (s .heap)
   pub roots : (c : Call) (s : State) → length (M .step c s .left .roots) ≡ length (s .roots)
+  pub text : (c : Call) (s : State) → length (M .step c s .left .text) ≡ length (s .text)
   pub freshHeap : (s : State) → length (M .fresh s .left .heap) ≡ length (s .heap)
   pub freshRoots : (s : State) → M .fresh s .left .roots ≡ s .roots
+  pub freshText : (s : State) → M .fresh s .left .text ≡ s .text
 
 -- answers in numbers can be told apart: two answers of one call with equal numbers are equal
 pub record ToldApart (M : Machine) : Type 0 where

@@ -11,6 +11,9 @@ pub mod Soundness
 pub mod Collection
 pub mod During
 pub mod Answers
+pub mod Texts
+pub mod Trees
+pub mod Reading
 pub mod Contracts
 pub mod Admission
 pub mod Changes
@@ -21,11 +24,14 @@ pub mod Graph
 pub mod GraphCalls
 pub mod Worked
 pub mod CodeWords
+pub mod TextCases
 pub mod Unnamed
 pub mod Unsound
 pub mod EachCall
 pub mod Edges
 pub mod Conditions
+pub mod TextFaults
+pub mod ReadFaults
 pub mod Refusals
 pub mod Demand1
 pub mod Demand2
@@ -34,3 +40,4 @@ pub mod Represents
 pub mod Demand3
 pub mod Looks
 pub mod Laws
+pub mod TextLaws

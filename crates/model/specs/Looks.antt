@@ -21,6 +21,8 @@ use Rattle.model.specs.Window.{window, shown}
 use Rattle.model.specs.Sessions.{Machine}
 use Rattle.model.specs.Conditions.{Sound}
 use Rattle.model.specs.Demand2.{Became}
+use Rattle.model.specs.Trees.{leaf}
+use Rattle.model.specs.ReadFaults.{IsText}
 
 -- what a call looks at of the heap: no word, the object that a root names, or any word
 pub data Sight : Type 0 where
@@ -42,12 +44,15 @@ sight (Ask.RawRead object _) = objectOf object
 sight (Ask.RawWrite object _ _) = objectOf object
 sight (Ask.Same _ _) = noWord
 sight (Ask.Inspect root) = objectOf root
+sight (Ask.Write _) = anyWord
+sight (Ask.Read _) = anyWord
 
--- the same answer, roots and record
+-- the same answer, roots, record and bytes
 pub record Alike (o o′ : Outcome State) : Type 0 where
   pub answer : o .answer ≡ o′ .answer
   pub roots : o .left .roots ≡ o′ .left .roots
   pub «record» : o .left .«record» ≡ o′ .left .«record»
+  pub text : o .left .text ≡ o′ .left .text
 
 module _ (Y : Layout) where
   -- another heap agrees with that of s on the object whose header stands at i: its header and its fields
@@ -73,12 +78,14 @@ module _ (Y : Layout) where
     integer : (to : ℕ) (v : ℤ) → c ≡ Ask.SetInteger to v → inRange v ≡ true → Origin s c (tag v)
     null : (to : ℕ) → c ≡ Ask.SetNull to → Origin s c 0
     code : (to w : ℕ) → c ≡ Ask.SetCode to w → isCode w ≡ true → Origin s c w
+    -- that of an integer whose text the call reads
+    text : (to : ℕ) (v : ℤ) → c ≡ Ask.Read to → IsText (s .text) (leaf v) → Origin s c (tag v)
     -- the address of a new object, at the free index before or after a collection
     placed : Origin s c (address Y (free s))
     placedThen : Origin s c (address Y (free (collected Y s)))
 
   pub record Looks (M : Machine) : Type 0 where
-    -- two heaps of one length that agree on what the call looks at: the same answer, roots and record
+    -- two heaps of one length that agree on what the call looks at: the same answer, roots, record and bytes
     pub sees : (c : Call) (s : State) (H : List ℕ) → length H ≡ length (s .heap) → Agrees s H (sight c)
         → Alike (M .step c (withHeap H s)) (M .step c s)
     -- the window too, and it shows the same words

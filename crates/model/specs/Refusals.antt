@@ -20,6 +20,9 @@ use Rattle.model.specs.Objects.{index, kind, fieldCount}
 use Rattle.model.specs.Collection.{collected}
 use Rattle.model.specs.Changes.{rootWord, spare}
 use Rattle.model.specs.Conditions.{BadLength, BadShape, Names, Sound}
+use Rattle.model.specs.TextFaults.{Fault}
+use Rattle.model.specs.Trees.{Tree, treeWords}
+use Rattle.model.specs.ReadFaults.{IsText, ReadFault}
 
 -- a refusal, and when it applies
 pub record Row : Type 1 where
@@ -29,7 +32,7 @@ pub record Row : Type 1 where
 abbrev pub row : Refusal → Type 0 → Row
 row k p = record { refusal = k; applies = p }
 
--- the order in which refusals are given: of several that apply, the one of the lowest rank. Today it is that of the numbers.
+-- the order in which refusals are given: of several that apply, the one of the lowest rank
 abbrev pub rank : Refusal → ℕ
 rank Why.Shape = 0
 rank Why.Root = 1
@@ -38,8 +41,11 @@ rank Why.Range = 3
 rank Why.Object = 4
 rank Why.Kind = 5
 rank Why.Field = 6
-rank Why.Damaged = 7
-rank Why.Room = 8
+rank Why.Value = 7
+rank Why.Deep = 8
+rank Why.Text = 9
+rank Why.Damaged = 10
+rank Why.Room = 11
 
 -- ---- the conditions: those of SHAPE, `Names` and `Sound` are in Conditions
 
@@ -56,9 +62,12 @@ OutOfRange (negsuc n) = maxInteger < n
 abbrev pub NoCode : ℕ → Type 0
 NoCode w = (w % 2 ≡ 1) ⊎ (w < codeFloor)
 
--- 8 and 9: a collection is called for, where n + 1 words do not fit
+-- 8 and 9: a collection is called for, where the words needed do not fit: n + 1 for an object of n fields
+abbrev pub Short : ℕ → State → Type 0
+Short n s = spare s < n
+
 abbrev pub CalledFor : ℕ → State → Type 0
-CalledFor n s = spare s < n + 1
+CalledFor n s = Short (n + 1) s
 
 module _ (Y : Layout) (s : State) where
   -- 5: the root that must name an object does not; for inspect, its word is even, not 0, below the floor and names none
@@ -82,6 +91,15 @@ module _ (Y : Layout) (s : State) where
   abbrev pub Unsound : Type 0
   Unsound = Sound Y s → ⊥
 
+-- of faults that have places: the one at the least place, and at that place of the lowest rank
+pub record FirstFault (Faults : ℕ → Refusal → Type 0) (k : Refusal) : Type 0 where
+  pub place : ℕ
+  pub isFault : Faults place k
+  pub first : (p : ℕ) (j : Refusal) → Faults p j → (place < p) ⊎ ((place ≡ p) × (rank k ≤ rank j))
+
+abbrev pub faultRow : (ℕ → Refusal → Type 0) → Refusal → Row
+faultRow Faults k = row k (FirstFault Faults k)
+
 -- ---- the rows of each call
 
 -- the root numbers that a call names
@@ -99,6 +117,8 @@ rootsNamed (Ask.RawRead object field) = object ∷ []
 rootsNamed (Ask.RawWrite object field number) = object ∷ []
 rootsNamed (Ask.Same one other) = one ∷ other ∷ []
 rootsNamed (Ask.Inspect root) = root ∷ []
+rootsNamed (Ask.Write root) = root ∷ []
+rootsNamed (Ask.Read to) = to ∷ []
 
 -- fresh, which gives only the heap-length part of SHAPE
 abbrev pub freshRows : State → List Row
@@ -129,6 +149,13 @@ module _ (Y : Layout) where
   ownRows (Ask.RawWrite object field number) s = fieldRows Untraced object field s
   ownRows (Ask.Same one other) s = []
   ownRows (Ask.Inspect root) s = row Why.Object (NoValue Y s root) ∷ []
+  ownRows (Ask.Read to) s =
+      faultRow (ReadFault (s .text)) Why.Value ∷ faultRow (ReadFault (s .text)) Why.Deep
+      ∷ row Why.Damaged ((t : Tree) × IsText (s .text) t × Short (treeWords t) s × Unsound Y s)
+      ∷ row Why.Room ((t : Tree) × IsText (s .text) t × Short (treeWords t) s × Short (treeWords t) (collected Y s)) ∷ []
+  ownRows (Ask.Write root) s =
+      faultRow (Fault Y s root) Why.Object ∷ faultRow (Fault Y s root) Why.Value
+      ∷ faultRow (Fault Y s root) Why.Deep ∷ faultRow (Fault Y s root) Why.Text ∷ []
 
   abbrev pub rows : Call → State → List Row
   rows c s = admittedRows (rootsNamed c) s (ownRows c s)

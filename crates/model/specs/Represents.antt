@@ -55,3 +55,5 @@ module _ (Y : Layout) where
     pub count : length (s .roots) ≡ length (g .roots)
     pub roots : (r : ℕ) → r < length (g .roots) → Encodes kept headerOf (rootValue g r) (rootWord s r)
     pub holds : (x : ℕ) → mem x kept ≡ true → Holds kept headerOf (s .heap) (nth g x) (headerOf x)
+    -- and so do the bytes that are lent
+    pub text : s .text ≡ g .text

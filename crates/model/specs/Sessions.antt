@@ -1,9 +1,10 @@
--- Sessions: one call after another. Document 01, "The calls".
-use mathlib.Core.List.{List, [], _∷_}
+-- Sessions: one call after another, each lent bytes of its own. Document 01, "The calls"; document 02, Q-2.
+use Prim.Native.Nat.{ℕ}
+use mathlib.Core.List.{List, [], _∷_, map}
 use Rattle.model.specs.declared.Call.{Call}
 use Rattle.model.specs.declared.Call.the-variants as Ask
 use Rattle.model.specs.declared.Answer.{Answer}
-use Rattle.model.specs.Words.{State}
+use Rattle.model.specs.Words.{State, withText}
 use Rattle.model.specs.Headers.{Layout}
 use Rattle.model.specs.Answers.{Outcome}
 use Rattle.model.specs.Calls as Calls
@@ -24,6 +25,8 @@ step Y (Ask.RawRead object field) s = Calls.rawRead Y object field s
 step Y (Ask.RawWrite object field number) s = Calls.rawWrite Y object field number s
 step Y (Ask.Same one other) s = Calls.same one other s
 step Y (Ask.Inspect root) s = Calls.inspect Y root s
+step Y (Ask.Write root) s = Calls.write Y root s
+step Y (Ask.Read to) s = Calls.read Y to s
 
 -- what the demands are about: a way to start a heap and to answer a call. Each demand is stated of any machine, so that it
 -- can be held against a wrong one too, and proved of this library's, `machine`.
@@ -34,13 +37,34 @@ pub record Machine : Type 0 where
 abbrev pub machine : Layout → Machine
 machine Y = record { fresh = fresh; step = step Y }
 
-module _ (M : Machine) where
-  -- the answers to a list of calls
-  unfoldable pub answers : List Call → State → List Answer
-  answers [] s = []
-  answers (c ∷ cs) s = let o = M .step c s in o .answer ∷ answers cs (o .left)
+-- a call and the bytes that are lent to it; and its answer with these bytes as it left them
+pub record Asked : Type 0 where
+  pub call : Call
+  pub text : List ℕ
 
-  -- and what they leave
-  unfoldable pub after : List Call → State → State
-  after [] s = s
-  after (c ∷ cs) s = after cs (M .step c s .left)
+pub record Reply : Type 0 where
+  pub answer : Answer
+  pub text : List ℕ
+
+-- a call that is lent no bytes
+abbrev pub alone : Call → Asked
+alone c = record { call = c; text = [] }
+
+module _ (M : Machine) where
+  -- one call of a session, on a state that is lent its bytes
+  abbrev pub asked : Asked → State → Outcome State
+  asked c s = M .step (c .call) (withText (c .text) s)
+
+  -- the replies to a list of calls
+  unfoldable pub replies : List Asked → State → List Reply
+  replies [] s = []
+  replies (c ∷ cs) s = let o = asked c s in record { answer = o .answer; text = o .left .text } ∷ replies cs (o .left)
+
+  -- the answers among them
+  abbrev pub answers : List Asked → State → List Answer
+  answers cs s = map (λ r. r .answer) (replies cs s)
+
+  -- and what the calls leave, once the bytes are the host's again
+  unfoldable pub after : List Asked → State → State
+  after [] s = withText [] s
+  after (c ∷ cs) s = after cs (asked c s .left)

@@ -4,30 +4,35 @@
 --     word     0     1 .. S     S + 1 .. 2S
 --           reserved half A     half B
 use Prim.Native.Nat.{ℕ, _+_, _*_, _-_, _/_}
-use mathlib.Core.List.{List}
+use mathlib.Core.List.{List, []}
 use lib.ListN.{length, getD}
 use Rattle.model.specs.declared.Half.{Half}
 use Rattle.model.specs.declared.Half.the-variants.{A, B}
 use Rattle.model.specs.declared.Record.{Record}
 
--- the heap's words, the roots' words and the heap's record: what a call is lent, and what it leaves
+-- the heap's words, the roots' words, the heap's record and the bytes of a text: what a call is lent, and what it leaves.
+-- The bytes are lent to one call alone; most calls are lent none.
 pub record State : Type 0 where
   pub heap : List ℕ
   pub roots : List ℕ
   pub «record» : Record
+  pub text : List ℕ
 
 abbrev pub stateOf : List ℕ → List ℕ → Record → State
-stateOf H R q = record { heap = H; roots = R; «record» = q }
+stateOf H R q = record { heap = H; roots = R; «record» = q; text = [] }
 
--- the same with another heap, with other roots, with another record, with another half and free index
+-- the same with another heap, with other roots, with another record, with other bytes, with another half and free index
 abbrev pub withHeap : List ℕ → State → State
-withHeap H s = record { heap = H; roots = s .roots; «record» = s .«record» }
+withHeap H s = record { heap = H; roots = s .roots; «record» = s .«record»; text = s .text }
 
 abbrev pub withRoots : List ℕ → State → State
-withRoots R s = record { heap = s .heap; roots = R; «record» = s .«record» }
+withRoots R s = record { heap = s .heap; roots = R; «record» = s .«record»; text = s .text }
 
 abbrev pub withRecord : Record → State → State
-withRecord q s = record { heap = s .heap; roots = s .roots; «record» = q }
+withRecord q s = record { heap = s .heap; roots = s .roots; «record» = q; text = s .text }
+
+abbrev pub withText : List ℕ → State → State
+withText t s = record { heap = s .heap; roots = s .roots; «record» = s .«record»; text = t }
 
 abbrev pub withFree : Half → ℕ → State → State
 withFree h f s = withRecord (record { half = h; free = record { 0 = f } }) s

@@ -1,7 +1,7 @@
 -- The worked heaps of document 01, P1 to P10 and the Fresh cases: one table and one statement, computed by
--- the checker. A case is a run of session calls, with its answers in the paper's numbers. CodeWords, Unnamed,
--- Unsound and EachCall have further tables of cases, and Edges has the limits. The program `cases` runs every
--- case of the five tables.
+-- the checker. A case is a run of session calls, with its answers in the paper's numbers. CodeWords, TextCases,
+-- Unnamed, Unsound and EachCall have further tables of cases, and Edges has the limits. The program `cases` runs
+-- every case of the six tables.
 use Prim.Native.Nat.{ℕ, _+_, _*_}
 use mathlib.Core.Path.{_≡_, refl}
 use mathlib.Core.List.{List, [], _∷_, _++_, map}
@@ -22,22 +22,27 @@ use Rattle.model.specs.Discovery.{mem, visit, visits, packed, wordsBefor
 use Rattle.model.specs.Soundness.{tiles, headersFrom, isValue, fieldsAreValues, sound}
 use Rattle.model.specs.Collection.{wordLeads, orderAt, live, rename, copied}
 use Rattle.model.specs.Answers.{refuse, tells, tellsInteger, told}
-use Rattle.model.specs.Changes.{placed}
+use Rattle.model.specs.Changes.{placed, laid, planted}
 use Rattle.model.specs.Calls.{fresh, freshRecord, check, collect, allocate, setInteger, setNull, setCode, copy, load, store}
-use Rattle.model.specs.Calls.{rawRead, rawWrite, same, inspect}
-use Rattle.model.specs.Sessions.{step, machine, answers, after}
+use Rattle.model.specs.Calls.{rawRead, rawWrite, same, inspect, wordForm, write, read}
+use Rattle.model.specs.Texts.{digitsTo, joined, enclosed, tuplePieces, spelled}
+use Rattle.model.specs.Trees.{count, forestWords}
+use Rattle.model.specs.Reading.{parsedFrom}
+use Rattle.model.specs.Sessions.{step, machine, Asked, alone, replies, answers, after}
 
 -- ---- cases, and what it is that they run as they say
 
--- a start and a list of calls; the answers in numbers, and what is left
+-- a start and a list of calls with the bytes lent to each; the answers in numbers, these bytes afterwards, and what is left
 pub record Case : Type 0 where
   pub start : State
-  pub calls : List Call
+  pub calls : List Asked
   pub answered : List Told
+  pub texts : List (List ℕ)
   pub left : State
 
+-- calls that are lent no bytes
 abbrev pub case : State → List Call → List Told → State → Case
-case s cs a e = record { start = s; calls = cs; answered = a; left = e }
+case s cs a e = record { start = s; calls = map alone cs; answered = a; texts = map (λ c. []) cs; left = e }
 
 -- one call; and calls that change nothing
 abbrev pub one : State → Call → Told → State → Case
@@ -49,19 +54,21 @@ unchanged s cs a = case s cs a s
 -- the answers and what is left, as they should be and as they come
 pub record Result : Type 0 where
   pub answered : List Told
+  pub texts : List (List ℕ)
   pub left : State
 
 abbrev pub expected : Case → Result
-expected c = record { answered = c .answered; left = c .left }
+expected c = record { answered = c .answered; texts = c .texts; left = c .left }
 
 -- whoever unfolds it unfolds all that a call computes with
 unfoldable pub ran : Case → Result
 unfolding tuple untag badShapeOf names mem visit visits packed wordsBefore found
     tiles headersFrom isValue fieldsAreValues sound wordLeads orderAt live rename copied
     refuse placed fresh check collect allocate setInteger setNull setCode copy load store rawRead rawWrite same inspect
-    step answers after
+    wordForm digitsTo joined enclosed tuplePieces spelled write parsedFrom count forestWords laid planted read step replies after
 ran c = record {
   answered = map told (answers (machine tuple) (c .calls) (c .start));
+  texts = map (λ r. r .text) (replies (machine tuple) (c .calls) (c .start));
   left = after (machine tuple) (c .calls) (c .start);
 }
 

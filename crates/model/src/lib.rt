@@ -29,7 +29,8 @@ pub enum Kind {
     Untraced,
 }
 
-// Why a call refuses, in the order of document 01's table. The lowest that applies is given.
+// Why a call refuses, by document 01's and 02's numbers, which are names: the order in which refusals are given
+// is `rank` of the definitions.
 pub enum Refusal {
     // The heap's length, the number of roots or the free index is outside its range.
     Shape,
@@ -49,6 +50,13 @@ pub enum Refusal {
     Damaged,
     // The words needed do not fit after the collection either.
     Room,
+    // Write: null, a code word or an untraced object, which have no text. Read: the bytes are no text, or an
+    // integer is out of range.
+    Value,
+    // An object that would be the 65th nested.
+    Deep,
+    // The text has more bytes than are lent.
+    Text,
 }
 
 // What a call answers.
@@ -68,6 +76,8 @@ pub enum Answer {
     Code(u32),
     // A raw word.
     Number(u32),
+    // Write: the bytes of the text.
+    Written(usize),
     Refused(Refusal),
 }
 
@@ -95,6 +105,8 @@ pub struct Told {
     pub integer: i32,
     // Live words, a field count, a code word, a raw word, or 1 for sound and for yes.
     pub value: u32,
+    // The bytes of a text that was written, else 0. There may be more of them than 32 bits hold.
+    pub length: usize,
 }
 
 // A session call. Roots are named by number.
@@ -146,6 +158,12 @@ pub enum Call {
     },
     Inspect {
         root: usize,
+    },
+    Write {
+        root: usize,
+    },
+    Read {
+        to: usize,
     },
 }
 

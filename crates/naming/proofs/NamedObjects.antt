@@ -83,7 +83,7 @@ module _ (Y : Layout) where
 
   -- the same where SHAPE was tested, of the index as the code has it
   pub header-below : (s : State) (w i : ℕ) → i ≡ index Y w → badShape s ≡ false → names Y s w ≡ true → i < length (s .heap)
-  header-below s w i e h n = rw e (header-in (s .heap) (s .roots) (s .«record») w (free-in-heap s h) n)
+  header-below s w i e h n = let g = free-in-heap s h in rw e (omega (arith, named-ends s w n))
 
   -- the field by its three tests, whatever each comes to, at the header's index as the code has it
   pub field-tests : {a b c : Bool} (k : Kind) (w f i : ℕ) (s : State) → i ≡ index Y w

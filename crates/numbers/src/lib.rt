@@ -22,11 +22,14 @@ pub fn number(refusal: Refusal) -> u32
         Refusal::Field => 7,
         Refusal::Damaged => 8,
         Refusal::Room => 9,
+        Refusal::Value => 10,
+        Refusal::Deep => 11,
+        Refusal::Text => 12,
     }
 }
 
-// Numbers put together, of an answer that is no integer: the refusal's or 0, what the root of an inspect
-// holds, and the number that the answer carries.
+// Numbers put together, of an answer that is neither an integer nor a text's length: the refusal's or 0, what
+// the root of an inspect holds, and the number that the answer carries.
 pub fn tells(refusal: u32, holds: u32, value: u32) -> Told
     ensures { λ r. ⌜ r ≡ Answers.tells refusal holds value ⌝ }
 {
@@ -35,6 +38,7 @@ pub fn tells(refusal: u32, holds: u32, value: u32) -> Told
         holds: holds,
         integer: 0,
         value: value,
+        length: 0,
     }
 }
 
@@ -47,6 +51,7 @@ pub fn integer(value: i32) -> Told
         holds: 1,
         integer: value,
         value: 0,
+        length: 0,
     }
 }
 
@@ -67,6 +72,19 @@ pub fn code(word: u32) -> Told
     tells(0, 4, word)
 }
 
+// The numbers of a text that was written, of its bytes.
+pub fn written(length: usize) -> Told
+    ensures { λ r. ⌜ r ≡ Answers.told (Says.Written length) ⌝ }
+{
+    Told {
+        refusal: 0,
+        holds: 0,
+        integer: 0,
+        value: 0,
+        length: length,
+    }
+}
+
 pub fn told(answer: Answer) -> Told
     ensures { λ r. ⌜ r ≡ Answers.told answer ⌝ }
 {
@@ -82,6 +100,7 @@ pub fn told(answer: Answer) -> Told
         Answer::Object(kind, fields) => object(kind, fields),
         Answer::Code(word) => code(word),
         Answer::Number(number) => tells(0, 0, number),
+        Answer::Written(length) => written(length),
         Answer::Refused(refusal) => tells(number(refusal), 0, 0),
     }
 }

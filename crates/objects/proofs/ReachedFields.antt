@@ -13,7 +13,7 @@ use Rattle.model.specs.declared.Refusal.{Refusal}
 use Rattle.model.specs.declared.Refusal.the-variants as Why
 use Rattle.model.specs.declared.Answer.the-variants as Says
 use Rattle.model.specs.declared.Answered.{Answered}
-use Rattle.model.specs.Words.{State, at}
+use Rattle.model.specs.Words.{State, stateOf, at}
 use Rattle.model.specs.Headers.{Layout}
 use Rattle.model.specs.Objects.{index, kind, fieldCount, fieldIndex, names}
 use Rattle.model.specs.Shape.{badShape}
@@ -39,8 +39,9 @@ same-number s e = ap (λ (x : ℕ). says (Says.Number x) s) e
 
 pub written : {r : Answered} {o : Outcome State} {y : ℕ} (s : State) (i x : ℕ)
     → r ≡ record { answer = Says.Done; «record» = s .«record» }
-    → says Says.Done (withWord s i y) ≡ o → x ≡ y → outcomeOf r (set (s .heap) i x) (s .roots) ≡ o
-written s i x e f n = said _ _ e (ap (λ (x : ℕ). says Says.Done (withWord s i x)) n ∙ f)
+    → says Says.Done (stateOf (set (s .heap) i y) (s .roots) (s .«record»)) ≡ o → x ≡ y
+    → outcomeOf r (set (s .heap) i x) (s .roots) ≡ o
+written s i x e f n = said _ _ e (ap (λ (x : ℕ). says Says.Done (stateOf (set (s .heap) i x) (s .roots) (s .«record»))) n ∙ f)
 
 answered-refuse : (b : Bool) (k : Refusal) (x : Field) (s : State) (next : ℕ → Outcome State)
     → answered (cond b (Refused k) x) s next ≡ refuse b k s (answered x s next)

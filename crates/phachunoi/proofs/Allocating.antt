@@ -3,7 +3,7 @@
 use Prim.Native.Nat.{ℕ}
 use mathlib.Core.Path.{_≡_, refl, ap, _∙_, subst}
 use mathlib.Core.Bool.{Bool, true, false}
-use mathlib.Core.List.{List}
+use mathlib.Core.List.{List, []}
 use lib.ListN.{length}
 use Rattle.model.specs.declared.Kind.{Kind}
 use Rattle.model.specs.declared.Record.{Record}
@@ -36,7 +36,7 @@ module _ {H′ R′ : List ℕ} {q : Record} (k : Kind) (c : CRecord) (H R : Lis
 
   module _ {o : Answered} (g : outcomeOf o H′ R′ ≡ allocate tuple k n r (stateOf H R q)) where
     pub whole-crosses : {a : CResult} → a ≡ resultOf (told (o .answer)) (back c (o .«record»))
-        → givenOf a H′ R′ ≡ calledOf resultOf (allocate tuple k n r) H R c
+        → givenOf a H′ R′ [] ≡ calledOf resultOf (allocate tuple k n r) H R [] c
     unfolding step
     whole-crosses h = crosses resultOf c H R (Ask.Allocate k n r) e g h
 
@@ -59,7 +59,7 @@ module _ {H′ R′ : List ℕ} {q : Record} (k : Kind) (c : CRecord) (H R : Lis
         go true z = never (nowhere-bad H R) (at-once-shaped tuple k n r (stateOf H R nowhere) (fitted-nowhere z))
 
     pub at-once-crosses : {a : CResult} → a ≡ resultOf (told Says.Done) (numbersOf p)
-        → givenOf a H′ R′ ≡ calledOf resultOf (allocate tuple k n r) H R c
+        → givenOf a H′ R′ [] ≡ calledOf resultOf (allocate tuple k n r) H R [] c
     at-once-crosses h =
         whole-crosses {o = record { answer = Says.Done; «record» = p }} g
         (h ∙ ap (resultOf (told Says.Done)) (back-there c p has-half))

@@ -23,7 +23,7 @@ use model::Kind;
 // as it came.
 #[no_mangle]
 pub extern "C" fn phachunoi_fresh(heap: &mut [u32], record: CRecord) -> CResult
-    ensures { λ r. ⌜ givenOf r (now (heap .exit)) [] ≡ begun (now (heap .entry)) «record» ⌝ }
+    ensures { λ r. ⌜ givenOf r (now (heap .exit)) [] [] ≡ begun (now (heap .entry)) «record» ⌝ }
 {
     let roots: [u32; 0] = [];
     let done = blind::fresh(heap, &roots, record_of(record));

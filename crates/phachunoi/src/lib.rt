@@ -7,6 +7,7 @@ ghost use Rattle.crossing.specs.Numbers as Numbers;
 pub mod fields;
 pub mod heap;
 pub mod roots;
+pub mod texts;
 pub mod window;
 
 // The version of this library, as the header's number.
@@ -14,5 +15,5 @@ pub mod window;
 pub extern "C" fn phachunoi_version() -> u32
     ensures { λ r. ⌜ r ≡ Numbers.version ⌝ }
 {
-    3000
+    4000
 }

@@ -12,7 +12,7 @@ use Rattle.model.specs.declared.Kind.{Kind}
 use Rattle.model.specs.declared.Answer.the-variants as Says
 use Rattle.model.specs.declared.Record.{Record}
 use Rattle.model.specs.Limits.{maxRoots, maxFields}
-use Rattle.model.specs.Words.{State, stateOf, halfWordsOf, firstOf, free}
+use Rattle.model.specs.Words.{State, withHeap, withRoots, withFree, halfWordsOf, firstOf, free}
 use Rattle.model.specs.Headers.{Layout}
 use Rattle.model.specs.Shape.{badLength, badShapeOf, badShape}
 use Rattle.model.specs.Objects.{address}
@@ -28,9 +28,12 @@ use Rattle.placing.specs.Placing.{MayPlace, MaySpare, spareOf, atOnce}
 -- ---- a new object
 
 module _ (Y : Layout) (s : State) (k : Kind) (n r : ℕ) where
+  -- the same with these words and roots, and the free index past the object
+  abbrev withObject : List ℕ → List ℕ → State
+  withObject H R = withFree (s .«record» .half) (free s + (n + 1)) (withRoots R (withHeap H s))
+
   placed-is : placed Y k n r s
-      ≡ stateOf (cleared (set (s .heap) (free s) (Y .header k n)) (free s + 1) n) (set (s .roots) r (address Y (free s)))
-      (record { half = s .«record» .half; free = record { 0 = free s + (n + 1) } })
+      ≡ withObject (cleared (set (s .heap) (free s) (Y .header k n)) (free s + 1) n) (set (s .roots) r (address Y (free s)))
   unfolding placed
   placed-is = rw (cleared-sets, add-one (free s))
 
@@ -38,7 +41,7 @@ module _ (Y : Layout) (s : State) (k : Kind) (n r : ℕ) where
   pub placed-by : (header a : ℕ) (h₁ : List ℕ) → header ≡ Y .header k n
       → h₁ ≡ cleared (set (s .heap) (free s) header) (free s + 1) n
       → a ≡ address Y (free s)
-      → stateOf h₁ (set (s .roots) r a) (record { half = s .«record» .half; free = record { 0 = free s + (n + 1) } }) ≡ placed Y k n r s
+      → withObject h₁ (set (s .roots) r a) ≡ placed Y k n r s
   placed-by header a h₁ e f g = rw (placed-is, f, e, g)
 
 -- what its callers have: a shape that is not refused, and room

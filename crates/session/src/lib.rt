@@ -1,8 +1,8 @@
-// One session call, whichever it is. Its promise is `step` of the definitions, so that demand 3 speaks about
-// this code.
+// One session call, whichever it is, lent the bytes of a text, which only write and read look at. Its promise is `step` of the
+// definitions, so that demand 3 speaks about this code.
 ghost use mathlib.Core.Path.{_≡_};
 ghost use Rattle.model.specs.Headers as Layouts;
-ghost use Rattle.model.specs.Contracts.{lent, outcome};
+ghost use Rattle.model.specs.Contracts.{lentText, outcomeText};
 ghost use Rattle.model.specs.Sessions as Sessions;
 use allocator::allocate;
 use collector::collect;
@@ -10,8 +10,15 @@ use model::Answered;
 use model::Call;
 use model::Record;
 
-pub fn step(heap: &mut [u32], roots: &mut [u32], record: Record, call: Call) -> Answered
-    ensures { λ r. ⌜ outcome r heap roots ≡ Sessions.step Layouts.tuple call (lent heap roots «record») ⌝ }
+pub fn step(
+    heap: &mut [u32],
+    roots: &mut [u32],
+    record: Record,
+    call: Call,
+    text: &mut [u8],
+) -> Answered
+    ensures { λ r. ⌜ outcomeText r heap roots text
+        ≡ Sessions.step Layouts.tuple call (lentText heap roots «record» text) ⌝ }
 {
     match call {
         Call::Collect => collect(heap, roots, record),
@@ -35,5 +42,7 @@ pub fn step(heap: &mut [u32], roots: &mut [u32], record: Record, call: Call) -> 
         } => objects::raw_write(heap, roots, record, object, field, number),
         Call::Same { one, other } => blind::same(heap, roots, record, one, other),
         Call::Inspect { root } => views::inspect(heap, roots, record, root),
+        Call::Write { root } => writer::write(heap, roots, record, root, text),
+        Call::Read { to } => reader::read(heap, roots, record, to, text),
     }
 }

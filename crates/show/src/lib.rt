@@ -16,6 +16,10 @@ pub fn index(index: Index) {
     io::print_decimal(1, index.0 as u64);
 }
 
+pub fn length(length: usize) {
+    io::print_decimal(1, length as u64);
+}
+
 pub fn word(word: u32) {
     io::print_hex(1, word as u64, 8);
 }

@@ -6,6 +6,8 @@ int uses_every_inline_function(phachunoi_heap *h);
 int uses_every_inline_function(phachunoi_heap *h) {
   int yes = 0;
   uint32_t number = 0;
+  size_t length = 0;
+  char text[8];
   phachunoi_window window = phachunoi_heap_open(h, 0);
   uint32_t sum = phachunoi_heap_check(h, &yes) + phachunoi_heap_collect(h, &number);
   sum += phachunoi_heap_allocate_traced(h, 1, 0) + phachunoi_heap_allocate_untraced(h, 1, 0);
@@ -14,7 +16,8 @@ int uses_every_inline_function(phachunoi_heap *h) {
   sum += phachunoi_heap_copy(h, 0, 0) + phachunoi_heap_load(h, 0, 0, 0) + phachunoi_heap_store(h, 0, 0, 0);
   sum += phachunoi_heap_raw_read(h, 0, 0, &number) + phachunoi_heap_raw_write(h, 0, 0, 7);
   sum += phachunoi_heap_same(h, 0, 0, &yes) + phachunoi_heap_inspect(h, 0).refusal;
-  sum += phachunoi_heap_word(h, window, 0, &number);
+  sum += phachunoi_heap_word(h, window, 0, &number) + phachunoi_heap_write(h, 0, text, sizeof text, &length);
+  sum += phachunoi_heap_read(h, 0, text, length);
   sum += phachunoi_heap_begin(h, h->words, (h->word_count - 1) / 2, h->roots, h->root_count);
   return phachunoi_refusal_text(sum)[0];
 }

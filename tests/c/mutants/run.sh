@@ -7,13 +7,13 @@ cd "$(dirname "$0")/../../.." || exit 2
 made=target/c
 edits=tests/c/mutants/show.edits
 mkdir -p $made/mistaken
-in_archive=$(sed -n 's,^/\* MUTANTS \([0-9]*\) \*/$,\1,p' tests/c/mutants/standin.c)
+in_archive=$(sed -n 's,^/\* MUTANTS \([0-9]*\) \*/$,\1,p' tests/c/mutants/standin.h)
 in_show=$(grep -c '^mistake: ' $edits)
 
 # The whole test against the stand-in with mistake $1 of its own, and the headers of folder $2 before all others.
 try() {
     tools/cc.sh build $made/mutant -std=c99 -O1 -DMUTANT="$1" "-I$2" -Iinclude tests/c/*.c \
-        tests/c/mutants/standin.c || exit 2
+        tests/c/mutants/*.c || exit 2
     { tools/cc.sh run $made/mutant 20000 1 >$made/mutant.out; } 2>/dev/null # a crash is told by the status
 }
 

@@ -1,45 +1,28 @@
 /* A stand-in for the archive: the header's calls in plain C, with an in-place collector. It judges the tests.
  *
  * With MUTANT 0 it is right, and the tests must find no difference. Each other number is one deliberate mistake, told
- * where it is made; the tests must find it. MUTANTS below is how many there are.
+ * where it is made; the tests must find it. MUTANTS in standin.h is how many there are. The calls on texts stand in
+ * standin_texts.c and standin_reader.c.
  */
-#include "phachunoi.h"
+#include "standin.h"
 
-#ifndef MUTANT
-#define MUTANT 0
-#endif
-#define BUG(number) (MUTANT == (number))
-/* MUTANTS 49 */
-
-typedef struct phachunoi_record record_t;
-struct view { /* what a call was lent */
-  uint32_t *heap;
-  size_t words;
-  uint32_t *roots;
-  size_t root_count;
-  record_t record;
-};
-
-#define VIEW struct view v = {(uint32_t *)heap, words, (uint32_t *)roots, root_count, record}
-#define HEADER_COUNT(h) (((h) & 0x7fffffffu) >> 1)
-
-static size_t half_of(const struct view *v) { return v->words / 2; }
-static size_t first_of(const struct view *v, uint32_t half) { return half ? half_of(v) + 1 : 1; }
-static size_t end_of(const struct view *v) { return first_of(v, v->record.half) + half_of(v); }
+size_t half_of(const struct view *v) { return v->words / 2; }
+size_t first_of(const struct view *v, uint32_t half) { return half ? half_of(v) + 1 : 1; }
+size_t end_of(const struct view *v) { return first_of(v, v->record.half) + half_of(v); }
 
 static int length_ok(size_t words) {
   size_t longest = BUG(1) ? 2097151 : 2097153; /* the largest heap is refused */
   return words % 2 == 1 && words >= 3 && words <= longest;
 }
 
-static int shape_ok(const struct view *v) {
+int shape_ok(const struct view *v) {
   size_t most = BUG(2) ? 65535 : 65536;                     /* the last root is one too many */
   size_t end = end_of(v) - (BUG(3) && v->record.half == 1); /* an exactly full half B is refused */
   return length_ok(v->words) && v->root_count <= most && v->record.half <= 1 &&
          v->record.free >= first_of(v, v->record.half) && v->record.free <= end;
 }
 
-static int is_code(uint32_t word) {
+int is_code(uint32_t word) {
   uint32_t floor = PHACHUNOI_CODE_FLOOR + 2u * BUG(27) - 2u * BUG(28); /* the floor is one word too high; too low */
   if (BUG(29) && word % 4 != 0) return 0;                              /* only multiples of 4 are code words */
   if (BUG(30) && word >> 31) return 0;                                 /* words are compared as signed numbers */
@@ -51,7 +34,7 @@ static int plain(uint32_t word) {
   return word % 2 == 1 || word == 0 || is_code(word);
 }
 
-static int names(const struct view *v, uint32_t word) {
+int names(const struct view *v, uint32_t word) {
   size_t at = word / 4;
   if (word == 0 || word % 4 != 0 || at < first_of(v, v->record.half) || at >= v->record.free) return 0;
   if (BUG(4)) return 1; /* any multiple of 4 in range is an object */
@@ -103,7 +86,7 @@ static int good_all(const struct view *v) {
   return 1;
 }
 
-static int sound(const struct view *v) {
+int sound(const struct view *v) {
   size_t i, idle = first_of(v, 1 - v->record.half);
   int ok;
   if ((v->heap[0] && !BUG(7)) || !zero(v, idle, idle + half_of(v))) return 0; /* word 0 is not looked at */
@@ -138,7 +121,7 @@ static void scan_object(const struct view *v, size_t at, size_t *next) {
 }
 
 /* The roots, then the copies in their order. `dead` is a root that does not count, or none. */
-static size_t collect(struct view *v, size_t dead) {
+size_t collect(struct view *v, size_t dead) {
   size_t i, first = first_of(v, 1 - v->record.half), next = first, old = first_of(v, v->record.half);
   for (i = 0; i < v->root_count; i++)
     if (i != dead) v->roots[BUG(12) ? v->root_count - 1 - i : i] = /* the last root is visited first */

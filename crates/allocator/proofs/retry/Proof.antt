@@ -7,7 +7,7 @@ use Rattle.model.specs.Words.{State, stateOf}
 use Rattle.model.specs.Soundness.{sound}
 use Rattle.model.specs.Collection.{collected}
 use Rattle.model.proofs.Refusing.{said}
-use Rattle.allocator.proofs.Left.{left-is, left-shaped, left-roots}
+use Rattle.engine.proofs.Left.{left-is, left-shaped, left-roots}
 use Rattle.allocator.proofs.AllocateCases.{retried-damaged, retried-room, retried-done}
 use Rattle.placing.proofs.PlacingLaws.{may-spare, may-place}
 use borrow.Author.Needs.{needs}
@@ -16,7 +16,7 @@ use Rattle.allocator.proofs.retry.Tie as tie
 use Rattle.allocator.proofs.retry.Reads as reads
 use Rattle.allocator.proofs.retry.Lts as lts
 use Rattle.checker.proofs.is_sound.Reads as is-sound-reads
-use Rattle.allocator.proofs.collect_among.Reads as collect-among-reads
+use Rattle.engine.proofs.collect_among.Reads as collect-among-reads
 use Rattle.model.proofs.say.Reads as say-reads
 use Rattle.placing.proofs.place.Reads as place-reads
 use Rattle.placing.proofs.spare_of.Reads as spare-of-reads

@@ -60,6 +60,24 @@ enum-told-9 c = search needs
 returns-9 : tie.Need-returns-9
 returns-9 c = rw (c .enum-told9 .given .1) refl
 
+enum-told-10 : tie.Need-enum-told-10
+enum-told-10 c = search needs
+
+returns-10 : tie.Need-returns-10
+returns-10 c = rw (c .enum-told10 .given .1) refl
+
+enum-told-11 : tie.Need-enum-told-11
+enum-told-11 c = search needs
+
+returns-11 : tie.Need-returns-11
+returns-11 c = rw (c .enum-told11 .given .1) refl
+
+enum-told-12 : tie.Need-enum-told-12
+enum-told-12 c = search needs
+
+returns-12 : tie.Need-returns-12
+returns-12 c = rw (c .enum-told12 .given .1) refl
+
 pub number-spec : {M : Type 1} → statement M
 number-spec =
     tie.close
@@ -73,6 +91,9 @@ number-spec =
     enum-told-7
     enum-told-8
     enum-told-9
+    enum-told-10
+    enum-told-11
+    enum-told-12
     returns
     returns-2
     returns-3
@@ -81,4 +102,7 @@ number-spec =
     returns-6
     returns-7
     returns-8
-    returns-9)
+    returns-9
+    returns-10
+    returns-11
+    returns-12)

@@ -14,6 +14,7 @@ use Rattle.numbers.proofs.number.Reads as number-reads
 use Rattle.numbers.proofs.code.Reads as code-reads
 use Rattle.numbers.proofs.object.Reads as object-reads
 use Rattle.numbers.proofs.tells.Reads as tells-reads
+use Rattle.numbers.proofs.written.Reads as written-reads
 
 enum-told : tie.Need-enum-told
 enum-told c = search needs
@@ -84,6 +85,12 @@ tells-requires-8 c κs = search needs
 enum-known-answer-6 : tie.Need-enum-known-answer-6
 enum-known-answer-6 c = search needs
 
+written-requires : tie.Need-written-requires
+written-requires c κs = search needs
+
+enum-known-answer-7 : tie.Need-enum-known-answer-7
+enum-known-answer-7 c = search needs
+
 number-requires : tie.Need-number-requires
 number-requires c κs = search needs
 
@@ -127,7 +134,10 @@ returns-11 : tie.Need-returns-11
 returns-11 c = rw (c .before .before .answer5 .given .1) (c .tells8 .ensures)
 
 returns-12 : tie.Need-returns-12
-returns-12 c = rw (c .before .before .before .answer6 .given .1) (rw (c .before .number .ensures) at (c .tells9 .ensures))
+returns-12 c = rw (c .before .before .answer6 .given .1) (c .written .ensures)
+
+returns-13 : tie.Need-returns-13
+returns-13 c = rw (c .before .before .before .answer7 .given .1) (rw (c .before .number .ensures) at (c .tells9 .ensures))
 
 pub told-spec : {M : Type 1} → statement M
 told-spec =
@@ -156,6 +166,8 @@ told-spec =
     enum-known-answer-5
     tells-requires-8
     enum-known-answer-6
+    written-requires
+    enum-known-answer-7
     number-requires
     tells-requires-9
     returns
@@ -169,4 +181,5 @@ told-spec =
     returns-9
     returns-10
     returns-11
-    returns-12)
+    returns-12
+    returns-13)

@@ -1,7 +1,17 @@
--- `session::step` meets its contract: each arm is the case of `step` for its call.
+-- `session::step` meets its contract: each arm is the case of `step` for its call, and leaves the bytes but for write's.
+use Prim.Native.Nat.{ℕ}
+use mathlib.Core.Path.{_≡_, refl}
+use mathlib.Core.Bool.{false}
+use mathlib.Core.List.{List}
 use mir.Syntax.{w64}
 use mir.ValLaws.{toZ-ofZ}
+use Rattle.model.specs.declared.Call.{Call}
+use Rattle.model.specs.declared.Call.the-variants as Ask
+use Rattle.model.specs.Words.{State, stateOf, withText}
+use Rattle.model.specs.Headers.{tuple}
+use Rattle.model.specs.Answers.{Outcome}
 use Rattle.model.specs.Sessions.{step}
+use Rattle.model.proofs.Unseen.{seesText, lending, lent-too}
 use borrow.Author.Needs.{needs}
 use Rattle.session.proofs.step.Statement.{statement}
 use Rattle.session.proofs.step.Tie as tie
@@ -12,6 +22,8 @@ use Rattle.objects.proofs.raw_read.Reads as raw-read-reads
 use Rattle.objects.proofs.raw_write.Reads as raw-write-reads
 use Rattle.objects.proofs.store.Reads as store-reads
 use Rattle.views.proofs.contents.inspect.Reads as inspect-reads
+use Rattle.writer.proofs.write.Reads as write-reads
+use Rattle.reader.proofs.read.Reads as read-reads
 use Rattle.blind.proofs.roots.copy.Reads as copy-reads
 use Rattle.blind.proofs.roots.same.Reads as same-reads
 use Rattle.blind.proofs.code.set_code.Reads as set-code-reads
@@ -20,6 +32,21 @@ use Rattle.blind.proofs.roots.set_null.Reads as set-null-reads
 use Rattle.checker.proofs.check.Reads as check-reads
 use Rattle.allocator.proofs.allocate.Reads as allocate-reads
 use Rattle.collector.proofs.collect.Reads as collect-reads
+
+-- where the call begins, and what it is lent but for the bytes
+abbrev start : tie.After-slice-known3 → tie.Start
+start c = c .before .before .before
+
+abbrev words : tie.After-slice-known3 → State
+words c = let a = start c .args in stateOf (a .heap .now) (a .roots .now) (a .«record»)
+
+abbrev bytes : tie.After-slice-known3 → List ℕ
+bytes c = start c .args .text .now
+
+-- a call that is not lent the bytes: they stay, beside what it promises
+beside : (c : tie.After-slice-known3) {o : Outcome State} (k : Call) → seesText k ≡ false → o ≡ step tuple k (words c)
+    → lending (bytes c) o ≡ step tuple k (withText (bytes c) (words c))
+beside c k n e = lent-too tuple (bytes c) (words c) k n e
 
 enum-told : tie.Need-enum-told
 enum-told c = search needs
@@ -99,6 +126,18 @@ enum-known-call-11 c = search needs
 inspect-requires : tie.Need-inspect-requires
 inspect-requires c κs = search needs
 
+enum-known-call-12 : tie.Need-enum-known-call-12
+enum-known-call-12 c = search needs
+
+write-requires : tie.Need-write-requires
+write-requires c κs = search needs
+
+enum-known-call-13 : tie.Need-enum-known-call-13
+enum-known-call-13 c = search needs
+
+read-requires : tie.Need-read-requires
+read-requires c κs = search needs
+
 same-length : tie.Need-same-length
 same-length c = search needs
 
@@ -109,7 +148,8 @@ returns : tie.Need-returns
 unfolding step
 returns c =
     let called = c .before .before .before .before in
-    rw (called .before .before .before .enum-told .given .1) (called .collect .ensures)
+    let asked = called .before .before .before in
+    rw (asked .enum-told .given .1) (beside (asked .before .before) Ask.Collect refl (called .collect .ensures))
 
 same-length-3 : tie.Need-same-length-3
 same-length-3 c = search needs
@@ -121,7 +161,8 @@ returns-2 : tie.Need-returns-2
 unfolding step
 returns-2 c =
     let called = c .before .before in
-    rw (called .before .before .before .enum-told2 .given .1) (called .check .ensures)
+    let asked = called .before .before .before in
+    rw (asked .enum-told2 .given .1) (beside (asked .before .before) Ask.Check refl (called .check .ensures))
 
 same-length-5 : tie.Need-same-length-5
 same-length-5 c = search needs
@@ -134,7 +175,7 @@ unfolding step
 returns-3 c =
     let called = c .before .before .before .before in
     let asked = called .before .before .before .before in
-    rw (asked .call .given .1) (called .allocate .ensures)
+    rw (asked .call .given .1) (beside (asked .before .before) (Ask.Allocate _ _ _) refl (called .allocate .ensures))
 
 same-length-7 : tie.Need-same-length-7
 same-length-7 c = search needs
@@ -149,7 +190,7 @@ returns-4 c =
     let asked = called .before .before .before .before in
     let told = called .before .before .before .known-told2 .given .1 .0 .1 in
     let v = toZ-ofZ w64 (asked .call2 .given .0 .1 .0) (record { sfits = told }) in
-    rw (asked .call2 .given .1) (rw v at (called .set-integer .ensures))
+    rw (asked .call2 .given .1) (beside (asked .before .before) (Ask.SetInteger _ _) refl (rw v at (called .set-integer .ensures)))
 
 same-length-9 : tie.Need-same-length-9
 same-length-9 c = search needs
@@ -162,7 +203,7 @@ unfolding step
 returns-5 c =
     let called = c .before .before in
     let asked = called .before .before .before .before in
-    rw (asked .call3 .given .1) (called .set-null .ensures)
+    rw (asked .call3 .given .1) (beside (asked .before .before) (Ask.SetNull _) refl (called .set-null .ensures))
 
 same-length-11 : tie.Need-same-length-11
 same-length-11 c = search needs
@@ -175,7 +216,7 @@ unfolding step
 returns-6 c =
     let called = c .before .before in
     let asked = called .before .before .before .before in
-    rw (asked .call4 .given .1) (called .set-code .ensures)
+    rw (asked .call4 .given .1) (beside (asked .before .before) (Ask.SetCode _ _) refl (called .set-code .ensures))
 
 same-length-13 : tie.Need-same-length-13
 same-length-13 c = search needs
@@ -188,7 +229,7 @@ unfolding step
 returns-7 c =
     let called = c .before .before in
     let asked = called .before .before .before .before in
-    rw (asked .call5 .given .1) (called .copy .ensures)
+    rw (asked .call5 .given .1) (beside (asked .before .before) (Ask.Copy _ _) refl (called .copy .ensures))
 
 same-length-15 : tie.Need-same-length-15
 same-length-15 c = search needs
@@ -201,7 +242,7 @@ unfolding step
 returns-8 c =
     let called = c .before .before in
     let asked = called .before .before .before .before in
-    rw (asked .call6 .given .1) (called .load .ensures)
+    rw (asked .call6 .given .1) (beside (asked .before .before) (Ask.Load _ _ _) refl (called .load .ensures))
 
 same-length-17 : tie.Need-same-length-17
 same-length-17 c = search needs
@@ -214,7 +255,7 @@ unfolding step
 returns-9 c =
     let called = c .before .before in
     let asked = called .before .before .before .before in
-    rw (asked .call7 .given .1) (called .store .ensures)
+    rw (asked .call7 .given .1) (beside (asked .before .before) (Ask.Store _ _ _) refl (called .store .ensures))
 
 same-length-19 : tie.Need-same-length-19
 same-length-19 c = search needs
@@ -226,7 +267,7 @@ returns-10 : tie.Need-returns-10
 unfolding step
 returns-10 c =
     let asked = c .before .before .before .before in
-    rw (asked .call8 .given .1) (c .raw-read .ensures)
+    rw (asked .call8 .given .1) (beside (asked .before .before) (Ask.RawRead _ _) refl (c .raw-read .ensures))
 
 same-length-21 : tie.Need-same-length-21
 same-length-21 c = search needs
@@ -239,7 +280,7 @@ unfolding step
 returns-11 c =
     let called = c .before .before in
     let asked = called .before .before .before .before in
-    rw (asked .call9 .given .1) (called .raw-write .ensures)
+    rw (asked .call9 .given .1) (beside (asked .before .before) (Ask.RawWrite _ _ _) refl (called .raw-write .ensures))
 
 same-length-23 : tie.Need-same-length-23
 same-length-23 c = search needs
@@ -251,7 +292,7 @@ returns-12 : tie.Need-returns-12
 unfolding step
 returns-12 c =
     let asked = c .before .before .before .before in
-    rw (asked .call10 .given .1) (c .same .ensures)
+    rw (asked .call10 .given .1) (beside (asked .before .before) (Ask.Same _ _) refl (c .same .ensures))
 
 same-length-25 : tie.Need-same-length-25
 same-length-25 c = search needs
@@ -263,7 +304,39 @@ returns-13 : tie.Need-returns-13
 unfolding step
 returns-13 c =
     let asked = c .before .before .before .before in
-    rw (asked .call11 .given .1) (c .inspect .ensures)
+    rw (asked .call11 .given .1) (beside (asked .before .before) (Ask.Inspect _) refl (c .inspect .ensures))
+
+same-length-27 : tie.Need-same-length-27
+same-length-27 c = search needs
+
+same-length-28 : tie.Need-same-length-28
+same-length-28 c = search needs
+
+same-length-29 : tie.Need-same-length-29
+same-length-29 c = search needs
+
+returns-14 : tie.Need-returns-14
+unfolding step
+returns-14 c =
+    let called = c .before .before in
+    let asked = called .before .before .before .before .before in
+    rw (asked .call12 .given .1) (called .write .ensures)
+
+same-length-30 : tie.Need-same-length-30
+same-length-30 c = search needs
+
+same-length-31 : tie.Need-same-length-31
+same-length-31 c = search needs
+
+same-length-32 : tie.Need-same-length-32
+same-length-32 c = search needs
+
+returns-15 : tie.Need-returns-15
+unfolding step
+returns-15 c =
+    let called = c .before .before .before .before in
+    let asked = called .before .before .before .before .before in
+    rw (asked .call13 .given .1) (called .read .ensures)
 
 pub step-spec : {M : Type 1} → statement M
 step-spec =
@@ -295,6 +368,10 @@ step-spec =
     same-requires
     enum-known-call-11
     inspect-requires
+    enum-known-call-12
+    write-requires
+    enum-known-call-13
+    read-requires
     same-length
     same-length-2
     returns
@@ -333,4 +410,12 @@ step-spec =
     returns-12
     same-length-25
     same-length-26
-    returns-13)
+    returns-13
+    same-length-27
+    same-length-28
+    same-length-29
+    returns-14
+    same-length-30
+    same-length-31
+    same-length-32
+    returns-15)

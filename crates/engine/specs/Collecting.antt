@@ -1,0 +1,9 @@
+-- What a collection of a sound heap answers and leaves.
+use Rattle.model.specs.declared.Answer.the-variants as Says
+use Rattle.model.specs.Words.{State}
+use Rattle.model.specs.Headers.{Layout}
+use Rattle.model.specs.Collection.{live, collected}
+use Rattle.model.specs.Answers.{Outcome, says}
+
+abbrev pub collection : Layout → State → Outcome State
+collection Y s = says (Says.Live (live Y s)) (collected Y s)

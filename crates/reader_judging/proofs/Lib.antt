@@ -1,0 +1,8 @@
+pub mod Steps
+pub mod Digits
+pub mod Naturals
+pub mod Forests
+pub mod Sorts
+pub mod Tuples
+pub mod Chains
+pub mod Verdicts

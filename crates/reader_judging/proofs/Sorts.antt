@@ -1,0 +1,114 @@
+-- How a value is read by its first byte: nothing, an integer, a tuple that may be opened or not.
+use Prim.Native.Nat.{ℕ, _+_, _-_, _≤_, _<_}
+use native.Mathlib.Omega.{arith}
+use native.Mathlib.Nat.{pos-of-ne-zero}
+use mathlib.Core.Path.{_≡_, refl, sym, ap, _∙_}
+use mathlib.Core.Logic.{⊎-elim}
+use mathlib.Core.Bool.{Bool, true, false, cond, _||_}
+use mathlib.Core.List.{List}
+use lib.Dec.{leb, eqb}
+use lib.ListN.{length, getD}
+use borrow.Author.Tests.{le-leb, lt-leb, ne-eqb, eqb-true}
+use Rattle.model.specs.declared.Refusal.{Refusal}
+use Rattle.model.specs.declared.Refusal.the-variants as Why
+use Rattle.model.specs.Texts.{maxDepth}
+use Rattle.model.specs.Trees.{Tree, leaf, treeWords}
+use Rattle.model.specs.Reading.{Open, height, Mode, start, opened, Next, go, bad, signed}
+use Rattle.model.specs.Reading.{begin, onward, stopped, Parsed, broken}
+use Rattle.model.proofs.Tests.{decide, or-cases}
+use Rattle.reader_judging.specs.Judging.{treeTuples}
+use Rattle.reader_judging.specs.Places.{rest, isOpener, negative, Numeral, whyOf, Stuck, Whole, Reads}
+use Rattle.reader_judging.proofs.Steps.{step-to, step-bad, at-end}
+
+-- what no byte that stands at a place may follow
+pub missing : (t : List ℕ) (x : Next) (at : ℕ) → at ≤ length t → stopped x ≡ broken Why.Value
+    → (at < length t → onward maxDepth x (getD t at 0) ≡ bad Why.Value) → rest t x at ≡ broken Why.Value
+missing t x at within e f =
+    ⊎-elim
+    (λ (h : at < length t). step-bad t x Why.Value at h (f h))
+    (λ (h : length t ≤ at). at-end t x at (omega arith) ∙ e)
+    (decide at (length t))
+
+-- a refusal by its number
+pub refused : (m : Open → Mode) (s d : ℕ) (t : List ℕ) (at w n r w′ n′ k : ℕ) → r ≡ 0 → w′ ≡ k
+    → ((o : Open) → height o + (d + s) ≡ maxDepth → rest t (go (m o)) at ≡ broken (whyOf k)) → Reads m s d t at w n r w′ n′
+refused m s d t at w n r w′ n′ k e f g = record {
+  stops = λ _ o q. g o q ∙ ap (λ (i : ℕ). broken (whyOf i)) (sym f);
+  comes = λ z. absurd (z e);
+}
+
+begin-deep : (o : Open) (b : ℕ) → isOpener b ≡ true → maxDepth ≤ height o → begin maxDepth o b ≡ bad Why.Deep
+begin-deep o b e h =
+    ⊎-elim
+    (λ (p : eqb b 40 ≡ true). rw (eqb-true b 40 p, le-leb maxDepth (height o) h))
+    (λ (p : eqb b 123 ≡ true). rw (eqb-true b 123 p, le-leb maxDepth (height o) h))
+    (or-cases (eqb b 40) (eqb b 123) e)
+
+begin-paren : (o : Open) (b : ℕ) → b ≡ 40 → height o < maxDepth → begin maxDepth o b ≡ go (opened o)
+begin-paren o b e h = rw (e, lt-leb maxDepth (height o) h)
+
+-- of the two openers, the other
+pub opener-brace : (b : ℕ) → isOpener b ≡ true → (b ≡ 40 → ⊥) → b ≡ 123
+opener-brace b k z =
+    ⊎-elim
+    (λ (p : eqb b 40 ≡ true). absurd (z (eqb-true b 40 p)))
+    (λ (p : eqb b 123 ≡ true). eqb-true b 123 p)
+    (or-cases (eqb b 40) (eqb b 123) k)
+
+module _ (d : ℕ) (t : List ℕ) (at w n r w′ n′ : ℕ) where
+  pub nothing : at ≡ length t → r ≡ 0 → w′ ≡ 10 → Reads start 0 d t at w n r w′ n′
+  nothing e f g = refused start 0 d t at w n r w′ n′ 10 f g (λ o q. at-end t (go (start o)) at e)
+
+  pub no-integer : (i m : ℕ) → Numeral t at i m → i ≡ 0 → r ≡ 0 → w′ ≡ 10 → Reads start 0 d t at w n r w′ n′
+  no-integer i m read e f g = refused start 0 d t at w n r w′ n′ 10 f g (λ o q. read .stops e o)
+
+  pub an-integer : (m : ℕ) → isOpener (getD t at 0) ≡ false → Numeral t at r m → (r ≡ 0 → ⊥) → w′ ≡ w → n′ ≡ n
+      → Reads start 0 d t at w n r w′ n′
+  an-integer m k read z f g =
+      let q = read .comes z in
+      record {
+        stops = λ e. absurd (z e);
+        comes = λ _. record {
+          stood = leaf (signed (negative t at) m);
+          beyond = q .beyond;
+          within = q .within;
+          words = omega arith;
+          tuples = omega arith;
+          wordsFit = omega (arith, q .beyond);
+          tuplesFit = omega (arith, q .beyond);
+          alone = λ _. (refl, k);
+          leads = λ o _. q .leads o;
+        };
+      }
+
+  pub too-deep : at < length t → isOpener (getD t at 0) ≡ true → d ≡ 0 → r ≡ 0 → w′ ≡ 11 → Reads start 0 d t at w n r w′ n′
+  too-deep h k e f g =
+      refused start 0 d t at w n r w′ n′ 11 f g
+      (λ o q. step-bad t (go (start o)) Why.Deep at h (begin-deep o (getD t at 0) k (omega arith)))
+
+  -- "{" where no tuple of one field begins
+  pub stuck : at < length t → isOpener (getD t at 0) ≡ true → (getD t at 0 ≡ 40 → ⊥) → (d ≡ 0 → ⊥) → Stuck t at d
+      → r ≡ 0 → w′ ≡ 10 → Reads start 0 d t at w n r w′ n′
+  stuck h k z some s f g =
+      let more = pos-of-ne-zero some in
+      refused start 0 d t at w n r w′ n′ 10 f g (λ o q. s .stuck more h (opener-brace (getD t at 0) k z) o (omega arith))
+
+  -- what is opened is a tuple, by its first byte
+  pub a-tuple : at < length t → (d ≡ 0 → ⊥) → getD t at 0 ≡ 40 → Reads opened 1 (d - 1) t (at + 1) w n r w′ n′
+      → Reads start 0 d t at w n r w′ n′
+  a-tuple h some b read =
+      let more = pos-of-ne-zero some in
+      record {
+        stops = λ e o q. step-to t (go (start o)) (go (opened o)) at h (begin-paren o _ b (omega arith)) ∙ read .stops e o (omega arith);
+        comes = λ z. let y = read .comes z in record {
+          stood = y .stood;
+          beyond = omega (arith, y .beyond);
+          within = y .within;
+          words = y .words;
+          tuples = y .tuples;
+          wordsFit = omega (arith, y .wordsFit);
+          tuplesFit = omega (arith, y .tuplesFit);
+          alone = λ e. absurd (omega (arith, y .alone e .0));
+          leads = λ o q. step-to t (go (start o)) (go (opened o)) at h (begin-paren o _ b (omega arith)) ∙ y .leads o (omega arith);
+        };
+      }

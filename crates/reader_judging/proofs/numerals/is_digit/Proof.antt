@@ -1,0 +1,18 @@
+-- `reader_judging::numerals::is_digit` meets its contract.
+use borrow.Author.Tests.{le-leb, lt-leb}
+use native.Mathlib.Omega.{arith}
+use Rattle.reader_judging.proofs.numerals.is_digit.Statement.{statement}
+use Rattle.reader_judging.proofs.numerals.is_digit.Tie as tie
+use Rattle.reader_judging.proofs.numerals.is_digit.Reads as reads
+use Rattle.reader_judging.proofs.numerals.is_digit.Lts as lts
+
+-- src/numerals.rt:22:1
+returns : tie.Need-returns
+returns c = simp (le-leb 48 (c .before .args .byte) (omega arith))
+
+-- src/numerals.rt:22:1
+returns-2 : tie.Need-returns-2
+returns-2 c = simp (lt-leb 48 (c .before .args .byte) (omega arith))
+
+pub is-digit-spec : {M : Type 1} → statement M
+is-digit-spec = tie.close (tie.spec returns returns-2)

@@ -1,0 +1,9 @@
+pub mod Bytes
+pub mod Digits
+pub mod Signs
+pub mod Trails
+pub mod Frames
+pub mod Fields
+pub mod Tallies
+pub mod Stacks
+pub mod Layings

@@ -1,0 +1,15 @@
+-- `reader_placing::numerals::is_digit` meets its contract.
+use native.Mathlib.Omega.{arith}
+use borrow.Author.Tests.{le-leb, lt-leb}
+use Rattle.reader_placing.proofs.Bytes.{below-suc}
+use Rattle.reader_placing.proofs.numerals.is_digit.Statement.{statement}
+use Rattle.reader_placing.proofs.numerals.is_digit.Tie as tie
+
+returns : tie.Need-returns
+returns c = simp (lt-leb 48 (c .before .args .byte) (c .if1 .taken))
+
+returns-2 : tie.Need-returns-2
+returns-2 c = simp (le-leb 48 (c .before .args .byte) (c .if1 .left)) (below-suc (c .before .args .byte) 57)
+
+pub is-digit-spec : {M : Type 1} → statement M
+is-digit-spec = tie.close (tie.spec returns returns-2)

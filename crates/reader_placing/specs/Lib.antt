@@ -1,0 +1,4 @@
+pub mod Numerals
+pub mod Counting
+pub mod Placing
+pub mod Laying

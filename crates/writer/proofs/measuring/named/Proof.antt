@@ -1,0 +1,117 @@
+-- `writer::measuring::named` meets its contract, by one law of its four tests.
+use Prim.Native.Nat.{ℕ, _+_, _-_, _<_}
+use native.Mathlib.Omega.{arith}
+use mathlib.Core.Path.{_≡_, refl, sym, ap, _∙_}
+use mathlib.Core.Bool.{_&&_}
+use lib.Dec.{leb, ltb}
+use borrow.Author.Tests.{eq-eqb, ne-eqb, not-true, not-false}
+use Rattle.words.proofs.InRun.{in-run}
+use Rattle.writer.proofs.Sorts.{named-tests}
+use borrow.Author.Needs.{needs}
+use Rattle.writer.proofs.measuring.named.Statement.{statement}
+use Rattle.writer.proofs.measuring.named.Tie as tie
+use Rattle.writer.proofs.measuring.named.Reads as reads
+use Rattle.writer.proofs.measuring.named.Lts as lts
+use Rattle.words.proofs.shape.in_run.Reads as in-run-reads
+use Rattle.words.proofs.tuple.Tuple.count_of.Reads as count-of-reads
+use Rattle.words.proofs.tuple.Tuple.index_of.Reads as index-of-reads
+use Rattle.words.proofs.tuple.Tuple.is_header.Reads as is-header-reads
+
+-- where the call begins; past the test of the word, which is a multiple of 4
+abbrev start : tie.Else1 → tie.Start
+start c = c .before .before
+
+abbrev aligned : tie.After-index-of → tie.Else1
+aligned c = c .before
+
+-- the index is known, and then that it lies in the used part
+abbrev indexed : tie.Else2 → tie.After-index-of
+indexed c = c .before .before
+
+abbrev inside : tie.After-is-header → tie.Else2
+inside c = c .before .before
+
+-- the index lies in the used part: what was tested, and what is known of it then
+tested : (c : tie.After-in-run) → let i = c .before in
+    let a = start (aligned i) .args in
+    (leb (a .first) (i .index-of .result .0) && ltb (i .index-of .result .0) (a .first + (a .free - a .first)))
+    ≡ c .in-run .result
+tested c = sym (c .in-run .ensures)
+
+used : (c : tie.Else2) → let i = indexed c in i .index-of .result .0 < start (aligned i) .args .free
+used c =
+    let i = indexed c in
+    let a = start (aligned i) in
+    let u = in-run (i .index-of .result .0) (a .args .first) (a .args .free - a .args .first)
+    (tested (c .before) ∙ not-false _ (c .if2 .left)) in
+    omega (arith, u, a .pre)
+
+returns : tie.Need-returns
+returns c = named-tests _ _ _ _ _ refl (ne-eqb _ _ (c .if1 .taken)) refl refl refl
+
+index-of-requires : tie.Need-index-of-requires
+index-of-requires c κs = search needs
+
+sub-in-run : tie.Need-sub-in-run
+sub-in-run c = search needs
+
+in-run-requires : tie.Need-in-run-requires
+in-run-requires c κs = search needs
+
+returns-2 : tie.Need-returns-2
+returns-2 c =
+    let i = c .before .before in
+    named-tests _ _ _ _ _ (i .index-of .ensures) (eq-eqb _ _ (aligned i .if1 .left))
+    (tested (c .before) ∙ not-true _ (c .if2 .taken)) refl refl
+
+mul-header : tie.Need-mul-header
+mul-header c = search needs
+
+shared-slice-read-header : tie.Need-shared-slice-read-header
+shared-slice-read-header c = omega (arith, used (c .before), start (aligned (indexed (c .before))) .pre)
+
+is-header-requires : tie.Need-is-header-requires
+is-header-requires c κs = search needs
+
+returns-3 : tie.Need-returns-3
+returns-3 c =
+    let header = c .before in
+    let u = inside header in
+    let i = indexed u in
+    named-tests _ _ _ _ _ (i .index-of .ensures) (eq-eqb _ _ (aligned i .if1 .left))
+    (tested (u .before) ∙ not-false _ (u .if2 .left))
+    (sym (header .is-header .ensures) ∙ not-true _ (c .if3 .taken)) refl
+
+count-of-requires : tie.Need-count-of-requires
+count-of-requires c κs = search needs
+
+sub-result : tie.Need-sub-result
+sub-result c = omega (arith, used (inside (c .before .before)))
+
+returns-4 : tie.Need-returns-4
+returns-4 c =
+    let headed = c .before in
+    let header = headed .before in
+    let u = inside header in
+    let i = indexed u in
+    named-tests _ _ _ _ _ (i .index-of .ensures) (eq-eqb _ _ (aligned i .if1 .left))
+    (tested (u .before) ∙ not-false _ (u .if2 .left))
+    (sym (header .is-header .ensures) ∙ not-false _ (headed .if3 .left))
+    (ap (λ (n : ℕ). ltb n (start (aligned i) .args .free - i .index-of .result .0)) (sym (c .count-of .ensures .0)))
+
+pub named-spec : {M : Type 1} → statement M
+named-spec =
+    tie.close
+    (tie.spec
+    returns
+    index-of-requires
+    sub-in-run
+    in-run-requires
+    returns-2
+    mul-header
+    shared-slice-read-header
+    is-header-requires
+    returns-3
+    count-of-requires
+    sub-result
+    returns-4)

@@ -1,0 +1,5 @@
+pub mod Going
+pub mod Measured
+pub mod Numerals
+pub mod Forms
+pub mod Tuples

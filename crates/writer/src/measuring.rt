@@ -1,0 +1,165 @@
+// How many bytes are left once a value is written, or why it has no text: a value's measurer and a tuple's
+// that call each other, with one level fewer each time round. Nothing is written.
+//
+// Both answer by one number, which is returned in a register where an enum goes through memory: from
+// `REFUSED` up it says why.
+ghost use mathlib.Core.Path.{_≡_};
+ghost use Prim.Native.Nat.{_+_, _≤_, _<_};
+ghost use Rattle.model.specs.Texts.{valuePieces};
+ghost use Rattle.writer.specs.Measured.{limit, whyOf, spent, measured};
+ghost use Rattle.writer.specs.Forms.{Used, namedIn, unnamedNumber, formIn};
+ghost use Rattle.writer.specs.Tuples.{openingBytes, tupleIn};
+use crate::numerals::integer_bytes;
+use model::Address;
+use model::Refusal;
+use words::shape::in_run;
+use words::tuple::Tuple;
+use words::values::is_code;
+
+// No text is as long.
+pub const REFUSED: usize = 9223372036854775808;
+
+const OBJECT: usize = 9223372036854775808;
+
+const VALUE: usize = 9223372036854775809;
+
+const DEEP: usize = 9223372036854775810;
+
+const TEXT: usize = 9223372036854775811;
+
+pub(crate) fn refusal_of(number: usize) -> Refusal
+    ensures { λ r. ⌜ r ≡ whyOf number ⌝ }
+{
+    if number == OBJECT {
+        return Refusal::Object;
+    }
+    if number == VALUE {
+        return Refusal::Value;
+    }
+    if number == DEEP {
+        return Refusal::Deep;
+    }
+    Refusal::Text
+}
+
+// What is left of `room` bytes after `count`, or TEXT.
+fn spend(room: usize, count: usize) -> usize
+    ensures { λ r. ⌜ r ≡ spent room count ⌝ }
+{
+    if room < count {
+        return TEXT;
+    }
+    room - count
+}
+
+// Whether a word names an object, in a heap whose used part is from `first` up to `free`. These two go along
+// as numbers: they are the same for each value, and `naming::names` works the first one out each time.
+fn named(heap: &[u32], first: usize, free: usize, word: u32) -> bool
+    requires { ⌜ Used (now heap) first free ⌝ }
+    ensures { λ r. ⌜ r ≡ namedIn first free (now (heap .entry)) word ⌝ }
+{
+    if word % 4 != 0 {
+        return false;
+    }
+    let at = Tuple::index_of(Address(word)).0;
+    if !in_run(at, first, free - first) {
+        return false;
+    }
+    let header = heap[at];
+    if !Tuple::is_header(header) {
+        return false;
+    }
+    Tuple::count_of(header) < free - at
+}
+
+// Why an even word that names no object has no text: null and code words are values.
+fn why_unnamed(word: u32) -> usize
+    ensures { λ r. ⌜ r ≡ unnamedNumber word ⌝ }
+{
+    if word == 0 {
+        return VALUE;
+    }
+    if is_code(word) {
+        return VALUE;
+    }
+    OBJECT
+}
+
+// What stands before the mark of a tuple's first field: `{1` of a field alone, `(` of none, and of more
+// nothing.
+fn opening_bytes(count: usize) -> usize
+    ensures { λ r. ⌜ r ≡ openingBytes count ⌝ }
+{
+    if count == 0 {
+        return 1;
+    }
+    if count == 1 {
+        return 2;
+    }
+    0
+}
+
+// What a word holds, with so many levels left. Integers and objects are met most often and come first.
+pub(crate) fn measure(
+    heap: &[u32],
+    first: usize,
+    free: usize,
+    room: usize,
+    word: u32,
+    depth: usize,
+) -> usize
+    requires { ⌜ (Used (now heap) first free) × (room < limit) ⌝ }
+    ensures { λ r. ⌜ r ≡ measured room (valuePieces (formIn first free (now (heap .entry))) depth word) ⌝ }
+{
+    if word % 2 == 1 {
+        return spend(room, integer_bytes(word));
+    }
+    if !named(heap, first, free, word) {
+        return why_unnamed(word);
+    }
+    let object = Tuple::index_of(Address(word)).0;
+    let header = heap[object];
+    if !Tuple::is_traced(header) {
+        return VALUE;
+    }
+    if depth == 0 {
+        return DEEP;
+    }
+    let count = Tuple::count_of(header);
+    measure_tuple(heap, first, free, room, object, count, depth - 1)
+}
+
+// A tuple of the `count` fields of an object, whose values have so many levels left. Each field comes after a
+// mark, the last byte of what opens the tuple or a comma.
+fn measure_tuple(
+    heap: &[u32],
+    first: usize,
+    free: usize,
+    room: usize,
+    object: usize,
+    count: usize,
+    depth: usize,
+) -> usize
+    requires { ⌜ (Used (now heap) first free) × ((room < limit) × (object + count < free)) ⌝ }
+    ensures { λ r. ⌜ r ≡ measured room (tupleIn first free (now (heap .entry)) depth object count) ⌝ }
+{
+    let opened = spend(room, opening_bytes(count));
+    if REFUSED <= opened {
+        return opened;
+    }
+    let mut left = opened;
+    let mut field = 0;
+    while field < count {
+        if left == 0 {
+            return TEXT;
+        }
+        let word = heap[object + 1 + field];
+        let next = measure(heap, first, free, left - 1, word, depth);
+        if REFUSED <= next {
+            return next;
+        }
+        left = next;
+        field += 1;
+    }
+    spend(left, 1)
+}

@@ -1,0 +1,119 @@
+// The bytes of a value that was measured: a value's writer and a tuple's that call each other, with one level
+// fewer each time round. Every byte has room and every word is an integer's or names a tuple, so that nothing
+// is tested; `first` and `free` are what it was measured by, and only the contracts have a use for them.
+ghost use mathlib.Core.Path.{_≡_};
+ghost use mathlib.Core.List.{map};
+ghost use Prim.Native.Nat.{_+_, _≤_, _<_};
+ghost use lib.ListN.{length};
+ghost use Rattle.model.specs.Texts.{byte, valuePieces};
+ghost use Rattle.writer.specs.Going.{reached, goes, Arrives};
+ghost use Rattle.writer.specs.Forms.{Used, formIn};
+ghost use Rattle.writer.specs.Tuples.{opening, firstMark, closerOf, tupleIn};
+use crate::numerals::spell_integer;
+use model::Address;
+use words::tuple::Tuple;
+
+const OPENER: u8 = 40;
+
+const CLOSER: u8 = 41;
+
+const COMMA: u8 = 44;
+
+const ONE_OPENER: u8 = 123;
+
+const ONE: u8 = 49;
+
+const EQUALS: u8 = 61;
+
+const ONE_CLOSER: u8 = 125;
+
+// What stands before the mark of a tuple's first field: `{1` of a field alone, `(` of none, and of more
+// nothing. It answers the next place, as the writers below do.
+fn spell_opening(text: &mut [u8], at: usize, count: usize) -> usize
+    requires { ⌜ at + length (opening count) ≤ length (now text) ⌝ }
+    ensures { λ r. ⌜ reached r (now (text .exit)) ≡ goes (map byte (opening count)) at (now (text .entry)) ⌝ }
+{
+    if count == 0 {
+        text[at] = OPENER;
+        return at + 1;
+    }
+    if count == 1 {
+        text[at] = ONE_OPENER;
+        text[at + 1] = ONE;
+        return at + 2;
+    }
+    at
+}
+
+// The mark of a tuple's first field.
+fn first_mark(count: usize) -> u8
+    ensures { λ r. ⌜ r ≡ firstMark count ⌝ }
+{
+    if count == 1 {
+        return EQUALS;
+    }
+    OPENER
+}
+
+fn closer_of(count: usize) -> u8
+    ensures { λ r. ⌜ r ≡ closerOf count ⌝ }
+{
+    if count == 1 {
+        return ONE_CLOSER;
+    }
+    CLOSER
+}
+
+// What a word holds, with so many levels left.
+pub(crate) fn spell(
+    heap: &[u32],
+    first: usize,
+    free: usize,
+    text: &mut [u8],
+    at: usize,
+    word: u32,
+    depth: usize,
+) -> usize
+    requires { ⌜ (Used (now heap) first free)
+        × Arrives (goes (valuePieces (formIn first free (now heap)) depth word) at (now text)) ⌝ }
+    ensures { λ r. ⌜ reached r (now (text .exit))
+        ≡ goes (valuePieces (formIn first free (now (heap .entry))) depth word) at (now (text .entry)) ⌝ }
+{
+    if word % 2 == 1 {
+        return spell_integer(text, at, word);
+    }
+    let object = Tuple::index_of(Address(word)).0;
+    let count = Tuple::count_of(heap[object]);
+    spell_tuple(heap, first, free, text, at, object, count, depth - 1)
+}
+
+// A tuple of the `count` fields of an object, whose values have so many levels left. Each field comes after a
+// mark, the last byte of what opens the tuple or a comma.
+fn spell_tuple(
+    heap: &[u32],
+    first: usize,
+    free: usize,
+    text: &mut [u8],
+    at: usize,
+    object: usize,
+    count: usize,
+    depth: usize,
+) -> usize
+    requires { ⌜ (Used (now heap) first free) × ((object + count < free)
+        × Arrives (goes (tupleIn first free (now heap) depth object count) at (now text))) ⌝ }
+    ensures { λ r. ⌜ reached r (now (text .exit))
+        ≡ goes (tupleIn first free (now (heap .entry)) depth object count) at (now (text .entry)) ⌝ }
+{
+    let mut place = spell_opening(text, at, count);
+    let mut mark = first_mark(count);
+    let mut field = 0;
+    while field < count {
+        text[place] = mark;
+        let word = heap[object + 1 + field];
+        place = spell(heap, first, free, text, place + 1, word, depth);
+        mark = COMMA;
+        field += 1;
+    }
+    text[place] = closer_of(count);
+    place + 1
+}
