@@ -17,7 +17,7 @@ use Rattle.model.specs.declared.Index.{Index}
 use Rattle.model.specs.declared.Refusal.the-variants as Why
 use Rattle.model.specs.declared.Place.the-variants as Place
 use Rattle.model.specs.declared.Answer.the-variants as Says
-use Rattle.model.specs.Answers.{outcomeOf, refuse}
+use Rattle.model.specs.Answers.{refuse}
 use Rattle.model.specs.Calls.{fresh}
 use Rattle.model.specs.Changes.{noRoot, rootWord, fits}
 use Rattle.model.specs.Graph.{object}
@@ -199,9 +199,10 @@ keeps-lengths Y = record {
 }
 
 pub settles : Law.Settles
-settles o a b H H′ R R′ e f =
-    let g : outcomeOf a H R ≡ outcomeOf b H′ R′ = e ∙ sym f in (
+settles o a b H H′ R R′ T T′ e f =
+    let g : Law.settled a H R T ≡ Law.settled b H′ R′ T′ = e ∙ sym f in (
       λ i. record { answer = ap (λ z. z .answer) g i; «record» = ap (λ z. z .left .«record») g i },
       ap (λ z. z .left .heap) g,
       ap (λ z. z .left .roots) g,
+      ap (λ z. z .left .text) g,
     )

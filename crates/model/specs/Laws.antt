@@ -19,11 +19,11 @@ use Rattle.model.specs.declared.Call.the-variants as Ask
 use Rattle.model.specs.declared.Place.{Place}
 use Rattle.model.specs.declared.Place.the-variants as Place
 use Rattle.model.specs.Limits.{maxFields}
-use Rattle.model.specs.Words.{State, at}
+use Rattle.model.specs.Words.{State, stateOf, withText, at}
 use Rattle.model.specs.Values.{isOdd, isCode, inRange, tag, untag}
 use Rattle.model.specs.Headers.{Layout, Lawful, tuple}
 use Rattle.model.specs.Objects.{address, index, fieldCount, fieldIndex}
-use Rattle.model.specs.Answers.{Outcome, outcomeOf, told}
+use Rattle.model.specs.Answers.{Outcome, says, told}
 use Rattle.model.specs.Changes.{rootWord}
 use Rattle.model.specs.Window.{window, shown, windowCount, windowWord}
 use Rattle.model.specs.Sessions.{Machine}
@@ -116,7 +116,11 @@ pub record ToldApart (M : Machine) : Type 0 where
   pub word : (H H′ : List ℕ) (p p′ : Place) (f f′ : ℕ) → told (windowWord H p f) ≡ told (windowWord H′ p′ f′)
       → windowWord H p f ≡ windowWord H′ p′ f′
 
--- a promise is an equation `outcome .. ≡ o`: any two outcomes that it allows have equal answers, records, words and roots
+-- a promise is an equation `outcome .. ≡ o`, of no bytes, or `outcomeText .. ≡ o`: any two outcomes that it allows have equal answers,
+-- records, words, roots and bytes
+abbrev pub settled : Answered → List ℕ → List ℕ → List ℕ → Outcome State
+settled a H R T = says (a .answer) (withText T (stateOf H R (a .«record»)))
+
 abbrev pub Settles : Type 0
-Settles = (o : Outcome State) (a b : Answered) (H H′ R R′ : List ℕ) → outcomeOf a H R ≡ o → outcomeOf b H′ R′ ≡ o
-    → (a ≡ b) × (H ≡ H′) × (R ≡ R′)
+Settles = (o : Outcome State) (a b : Answered) (H H′ R R′ T T′ : List ℕ) → settled a H R T ≡ o → settled b H′ R′ T′ ≡ o
+    → (a ≡ b) × (H ≡ H′) × (R ≡ R′) × (T ≡ T′)
