@@ -1,5 +1,6 @@
 -- A tuple from a mark and a field on: what is left of so many bytes after it, and where a writer goes.
 use Prim.Native.Nat.{ℕ, _+_, _-_, _≤_, _<_}
+use native.Mathlib.Omega.{arith}
 use mathlib.Core.Path.{_≡_, refl, sym, ap, _∙_, subst}
 use mathlib.Core.List.{List, [], _∷_, _++_, map}
 use lib.ListN.{length, getD, drop, set}
@@ -10,7 +11,8 @@ use Rattle.writer.specs.Measured.{limit, numberOf, measured, spent}
 use Rattle.writer.specs.Forms.{fieldsAt, formIn}
 use Rattle.writer.specs.Tuples.{opening, openingBytes, firstMark, closerOf, marked, tupleIn}
 use Rattle.writer.proofs.Steps.{one-byte, on-from, nothing, room-for, room-before, arrives-first}
-use Rattle.writer.proofs.Rooms.{any-byte, spent-bytes, no-room, one-less, measured-on, measured-stop}
+use Rattle.writer.proofs.Rooms.{number-above, any-byte, none-left, some-left, spent-bytes, no-room, one-less}
+use Rattle.writer.proofs.Rooms.{measured-on, measured-stop}
 use Rattle.writer.proofs.Opening.{opened, next-field, no-field, length-opening, begins}
 
 any-mark : (close a b : ℕ) (ps : List (List Piece)) (n : ℕ) → measured n (marked close a ps) ≡ measured n (marked close b ps)
@@ -42,24 +44,26 @@ module _ (first last : ℕ) (H : List ℕ) (d i n : ℕ) (within : i + n < lengt
 
   -- ---- measured
 
-  module _ (room left : ℕ) (e : left ≡ spent room (openingBytes n)) where
-    opening-left : left ≡ measured room (map byte (opening n))
-    opening-left = e ∙ ap (spent room) (length-opening n) ∙ spent-bytes (opening n) room
+  module _ (room bytes : ℕ) (e : bytes ≡ openingBytes n) where
+    opening-left : spent room bytes ≡ measured room (map byte (opening n))
+    opening-left = ap (spent room) (e ∙ length-opening n) ∙ spent-bytes (opening n) room
 
-    pub opening-stops : room < limit → limit ≤ left → left ≡ measured room (tupleIn first last H d i n)
+    pub opening-stops : room < limit → room < bytes → numberOf Why.Text ≡ measured room (tupleIn first last H d i n)
     opening-stops l h =
-        opening-left
+        let m = none-left room bytes h ∙ opening-left in
+        m
         ∙ (measured-stop (map byte (opening n)) (restPieces first last H d i n (firstMark n) 0) room l
-        (subst (λ (m : ℕ). limit ≤ m) opening-left h)
+        (subst (λ (k : ℕ). limit ≤ k) m (number-above Why.Text))
         ∙ ap (measured room) all-pieces)
 
-    pub opening-on : left < limit → measured left (restPieces first last H d i n comma 0) ≡ measured room
-        (tupleIn first last H d i n)
-    opening-on h =
-        any-mark (closerOf n) comma (firstMark n) _ left
-        ∙ (ap (λ (m : ℕ). measured m (restPieces first last H d i n (firstMark n) 0)) opening-left
+    pub opening-on : room < limit → bytes ≤ room
+        → measured (room - bytes) (restPieces first last H d i n comma 0) ≡ measured room (tupleIn first last H d i n)
+    opening-on l h =
+        let m = some-left room bytes h ∙ opening-left in
+        any-mark (closerOf n) comma (firstMark n) _ (room - bytes)
+        ∙ (ap (λ (k : ℕ). measured k (restPieces first last H d i n (firstMark n) 0)) m
         ∙ (measured-on (map byte (opening n)) (restPieces first last H d i n (firstMark n) 0) room
-        (subst (λ (m : ℕ). m < limit) opening-left h)
+        (subst (λ (k : ℕ). k < limit) m (omega arith))
         ∙ ap (measured room) all-pieces))
 
   module _ (left f : ℕ) (more : f < n) where

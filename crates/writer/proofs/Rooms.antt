@@ -48,6 +48,12 @@ unfolding measured
 any-byte b c ps zero = refl
 any-byte b c ps (suc n) = refl
 
+pub none-left : (n k : ℕ) → n < k → numberOf Why.Text ≡ spent n k
+none-left n k h = simp (lt-ltb n k h)
+
+pub some-left : (n k : ℕ) → k ≤ n → n - k ≡ spent n k
+some-left n k h = simp (le-ltb n k h)
+
 pub spent-bytes : (bs : List ℕ) (n : ℕ) → spent n (length bs) ≡ measured n (map byte bs)
 unfolding measured
 spent-bytes [] n = simp (le-ltb n 0 (omega arith)) (omega arith)

@@ -16,10 +16,12 @@ use Rattle.model.specs.Objects.{index, isTraced}
 use Rattle.model.specs.Texts.{Form, asTuple, Piece, byte, fault, integerText, tuplePieces, valuePieces, enclosed}
 use mathlib.Core.Logic.{⊎-elim}
 use Rattle.model.proofs.Tests.{by-test, and-both}
-use Rattle.writer.specs.Forms.{namedIn, whyUnnamed, fieldsAt, formIn}
+use Rattle.writer.specs.Forms.{namedIn, whyUnnamed, textlessNumber, fieldsAt, formIn}
 use Rattle.writer.specs.Going.{goes, Arrives}
+use Rattle.writer.specs.Measured.{numberOf, measured, spent}
 use Rattle.writer.specs.Tuples.{tupleIn}
 use Rattle.writer.proofs.Steps.{no-fault, room-for-bytes}
+use Rattle.writer.proofs.Rooms.{number-above, at-fault, spent-bytes}
 use Rattle.writer.proofs.Digits.{some-byte}
 
 -- a tuple's pieces by the code's d - 1
@@ -37,13 +39,18 @@ module _ (first last : ℕ) (H : List ℕ) (d w : ℕ) where
   unfolding formIn
   odd-pieces o = simp o
 
+  pub odd-left : isOdd w ≡ true → (room count r : ℕ) → count ≡ length (integerText (untag w)) → r ≡ spent room count
+      → r ≡ measured room pieces
+  odd-left o room count r e f =
+      f ∙ (ap (spent room) e ∙ (spent-bytes (integerText (untag w)) room ∙ ap (measured room) (odd-pieces o)))
+
   module _ (even : isOdd w ≡ false) where
-    pub unnamed-pieces : namedIn first last H w ≡ false → fault (whyUnnamed w) ∷ [] ≡ pieces
+    unnamed-pieces : namedIn first last H w ≡ false → fault (whyUnnamed w) ∷ [] ≡ pieces
     unfolding formIn
     unnamed-pieces n = simp (even, n)
 
     module _ (i : ℕ) (e : i ≡ index tuple w) (named : namedIn first last H w ≡ true) where
-      pub untraced-pieces : isTraced (tuple .kindOf (at H i)) ≡ false → fault Why.Value ∷ [] ≡ pieces
+      untraced-pieces : isTraced (tuple .kindOf (at H i)) ≡ false → fault Why.Value ∷ [] ≡ pieces
       unfolding formIn
       untraced-pieces u = let v = rw e at u in simp (even, named, v)
 
@@ -56,15 +63,15 @@ module _ (first last : ℕ) (H : List ℕ) (d w : ℕ) where
         unfolding tuplePieces
         deep-pieces z = rw (as-tuple, z)
 
-        pub tuple-pieces : (n : ℕ) → (d ≡ 0 → ⊥) → n ≡ tuple .countOf (at H i) → tupleIn first last H (d - 1) i n ≡ pieces
+        tuple-pieces : (n : ℕ) → (d ≡ 0 → ⊥) → n ≡ tuple .countOf (at H i) → tupleIn first last H (d - 1) i n ≡ pieces
         tuple-pieces n z f = rw (as-tuple, f) (sym (tuple-more (formIn first last H) d z _))
 
--- the name by four tests, whatever each comes to, at the index as the code has it
-pub named-tests : {b c h l : Bool} (first last : ℕ) (H : List ℕ) (w i : ℕ) → i ≡ index tuple w → eqb (w % 4) 0 ≡ b
-    → (leb first i && ltb i (first + (last - first))) ≡ c → tuple .isHeader (at H i) ≡ h
-    → ltb (tuple .countOf (at H i)) (last - i) ≡ l → (b && c && h && l) ≡ namedIn first last H w
+-- the name by five tests, whatever each comes to, at the index as the code has it
+pub named-tests : {b c u h l : Bool} (first last : ℕ) (H : List ℕ) (w i : ℕ) → i ≡ index tuple w → eqb (w % 4) 0 ≡ b
+    → leb first i ≡ c → ltb i last ≡ u → tuple .isHeader (at H i) ≡ h → ltb (tuple .countOf (at H i)) (last - i) ≡ l
+    → (b && (c && u) && h && l) ≡ namedIn first last H w
 unfolding namedIn
-named-tests first last H w i e pb pc ph pl = simp (sym e, pb, pc, ph, pl)
+named-tests first last H w i e pb pc pu ph pl = simp (sym e, pb, pc, pu, ph, pl)
 
 -- an object that is named ends before the free index
 pub named-inside : (first last : ℕ) (H : List ℕ) (w i n : ℕ) → i ≡ index tuple w → n ≡ tuple .countOf (at H i)
@@ -72,33 +79,78 @@ pub named-inside : (first last : ℕ) (H : List ℕ) (w i n : ℕ) → i ≡ ind
 unfolding namedIn
 named-inside first last H w i n e f t =
     let j = index tuple w in
-    let a = and-both (eqb (w % 4) 0 && (leb first j && ltb j (first + (last - first))) && tuple .isHeader (at H j)) _ t in
+    let a = and-both (eqb (w % 4) 0 && (leb first j && ltb j last) && tuple .isHeader (at H j)) _ t in
     let l = ltb-true (tuple .countOf (at H j)) (last - j) (a .1) in
     let m : tuple .countOf (at H (index tuple w)) ≡ n = ap (λ (j : ℕ). tuple .countOf (at H j)) (sym e) ∙ sym f in
     omega arith
 
--- where no piece refuses, an even word names a tuple and a level is left
-pub record Told (first last : ℕ) (H : List ℕ) (d w : ℕ) : Type 0 where
+-- an even word names a tuple
+pub record Told (first last : ℕ) (H : List ℕ) (w : ℕ) : Type 0 where
   pub named : namedIn first last H w ≡ true
   pub traced : isTraced (tuple .kindOf (at H (index tuple w))) ≡ true
-  pub levels : d ≡ 0 → ⊥
 
-pub arrives-told : (first last : ℕ) (H : List ℕ) (d w : ℕ) (place : ℕ) (t : List ℕ) → isOdd w ≡ false
-    → Arrives (goes (valuePieces (formIn first last H) d w) place t) → Told first last H d w
-arrives-told first last H d w place t even a =
-    ⊎-elim
-    (λ (n : namedIn first last H w ≡ true).
-    ⊎-elim
-    (λ (r : isTraced (tuple .kindOf (at H (index tuple w))) ≡ true). record {
-      named = n;
-      traced = r;
-      levels = λ z. no-fault _ _ place t (deep-pieces first last H d w even _ refl n r z) a;
-    })
-    (λ (u : isTraced (tuple .kindOf (at H (index tuple w))) ≡ false).
-    absurd (no-fault _ _ place t (untraced-pieces first last H d w even _ refl n u) a))
-    (by-test (isTraced (tuple .kindOf (at H (index tuple w))))))
-    (λ (n : namedIn first last H w ≡ false). absurd (no-fault _ _ place t (unnamed-pieces first last H d w even n) a))
-    (by-test (namedIn first last H w))
+-- by the number of why it has no text
+module _ (first last : ℕ) (H : List ℕ) (w m : ℕ) (e : m ≡ textlessNumber first last H w) where
+  unnamed-number : namedIn first last H w ≡ false → m ≡ numberOf (whyUnnamed w)
+  unfolding textlessNumber
+  unnamed-number n = e ∙ simp n
+
+  module _ (named : namedIn first last H w ≡ true) where
+    untraced-number : isTraced (tuple .kindOf (at H (index tuple w))) ≡ false → m ≡ numberOf Why.Value
+    unfolding textlessNumber
+    untraced-number u = e ∙ simp (named, u)
+
+    tuple-number : isTraced (tuple .kindOf (at H (index tuple w))) ≡ true → m ≡ 0
+    unfolding textlessNumber
+    tuple-number r = e ∙ simp (named, r)
+
+  pub number-told : m ≡ 0 → Told first last H w
+  number-told z =
+      ⊎-elim
+      (λ (n : namedIn first last H w ≡ true).
+      ⊎-elim
+      (λ (r : isTraced (tuple .kindOf (at H (index tuple w))) ≡ true). record { named = n; traced = r })
+      (λ (u : isTraced (tuple .kindOf (at H (index tuple w))) ≡ false). absurd (omega (arith, untraced-number n u)))
+      (by-test (isTraced (tuple .kindOf (at H (index tuple w))))))
+      (λ (n : namedIn first last H w ≡ false).
+      absurd (omega (arith, unnamed-number n, number-above (whyUnnamed w))))
+      (by-test (namedIn first last H w))
+
+  pub number-stops : (d room : ℕ) → isOdd w ≡ false → (m ≡ 0 → ⊥) → m ≡ measured room
+      (valuePieces (formIn first last H) d w)
+  number-stops d room even some =
+      ⊎-elim
+      (λ (n : namedIn first last H w ≡ true).
+      ⊎-elim
+      (λ (r : isTraced (tuple .kindOf (at H (index tuple w))) ≡ true). absurd (some (tuple-number n r)))
+      (λ (u : isTraced (tuple .kindOf (at H (index tuple w))) ≡ false).
+      untraced-number n u
+      ∙ (at-fault Why.Value room ∙ ap (measured room) (untraced-pieces first last H d w even _ refl n u)))
+      (by-test (isTraced (tuple .kindOf (at H (index tuple w))))))
+      (λ (n : namedIn first last H w ≡ false).
+      unnamed-number n
+      ∙ (at-fault (whyUnnamed w) room ∙ ap (measured room) (unnamed-pieces first last H d w even n)))
+      (by-test (namedIn first last H w))
+
+-- where no piece refuses
+module _ (first last : ℕ) (H : List ℕ) (d w place : ℕ) (t : List ℕ) (even : isOdd w ≡ false)
+    (a : Arrives (goes (valuePieces (formIn first last H) d w) place t)) where
+  pub arrives-told : Told first last H w
+  arrives-told =
+      ⊎-elim
+      (λ (n : namedIn first last H w ≡ true).
+      ⊎-elim
+      (λ (r : isTraced (tuple .kindOf (at H (index tuple w))) ≡ true). record { named = n; traced = r })
+      (λ (u : isTraced (tuple .kindOf (at H (index tuple w))) ≡ false).
+      absurd (no-fault _ _ place t (untraced-pieces first last H d w even _ refl n u) a))
+      (by-test (isTraced (tuple .kindOf (at H (index tuple w))))))
+      (λ (n : namedIn first last H w ≡ false). absurd (no-fault _ _ place t (unnamed-pieces first last H d w even n) a))
+      (by-test (namedIn first last H w))
+
+  pub arrives-levels : d ≡ 0 → ⊥
+  arrives-levels z =
+      no-fault _ _ place t
+      (deep-pieces first last H d w even _ refl (arrives-told .named) (arrives-told .traced) z) a
 
 module _ (first last : ℕ) (H : List ℕ) (d w place : ℕ) (t : List ℕ) where
   pub odd-room : isOdd w ≡ true → Arrives (goes (valuePieces (formIn first last H) d w) place t)
@@ -107,13 +159,15 @@ module _ (first last : ℕ) (H : List ℕ) (d w place : ℕ) (t : List ℕ) wher
       room-for-bytes (integerText (untag w)) place t (some-byte w)
       (subst (λ (ps : List Piece). Arrives (goes ps place t)) (sym (odd-pieces first last H d w o)) a)
 
-module _ (first last : ℕ) (H : List ℕ) (d w : ℕ) (even : isOdd w ≡ false) (i n : ℕ) (e : i ≡ index tuple w)
-    (f : n ≡ tuple .countOf (at H i)) (told : Told first last H d w) where
-  pub told-pieces : tupleIn first last H (d - 1) i n ≡ valuePieces (formIn first last H) d w
-  told-pieces =
-      tuple-pieces first last H d w even i e (told .named)
-      (ap (λ (j : ℕ). isTraced (tuple .kindOf (at H j))) e ∙ told .traced)
-      n (told .levels) f
-
+-- what a tuple's word is written by
+module _ (first last : ℕ) (H : List ℕ) (w i n : ℕ) (e : i ≡ index tuple w) (f : n ≡ tuple .countOf (at H i))
+    (told : Told first last H w) where
   pub told-inside : i + n < last
   told-inside = named-inside first last H w i n e f (told .named)
+
+  pub told-pieces : (d : ℕ) → isOdd w ≡ false → (d ≡ 0 → ⊥) → tupleIn first last H (d - 1) i n
+      ≡ valuePieces (formIn first last H) d w
+  told-pieces d even levels =
+      tuple-pieces first last H d w even i e (told .named)
+      (ap (λ (j : ℕ). isTraced (tuple .kindOf (at H j))) e ∙ told .traced)
+      n levels f

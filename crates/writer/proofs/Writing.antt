@@ -1,10 +1,10 @@
 -- The call: what is measured and spelled is what the root's word is to its text, and what that leaves is the call's outcome.
-use Prim.Native.Nat.{ℕ, _+_, _≤_, _<_}
+use Prim.Native.Nat.{ℕ, _+_, _-_, _≤_, _<_}
 use native.Mathlib.Omega.{arith}
 use mathlib.Core.Path.{_≡_, refl, sym, ap, _∙_, subst, fun-ext}
-use mathlib.Core.Bool.{Bool, true, false, not, cond, _||_}
+use mathlib.Core.Bool.{Bool, true, false, not, cond, _&&_, _||_}
 use mathlib.Core.List.{List, _++_}
-use lib.Dec.{leb}
+use lib.Dec.{leb, ltb}
 use lib.IntN.{ℤ}
 use lib.ListN.{length, drop}
 use lib.Seq.{sets, sets-eq}
@@ -59,7 +59,10 @@ forms false false false false _ v vs n c = refl
 module _ (s : State) (fits : FreeInHeap (s .heap) (s .«record»)) (first : ℕ) (e : first ≡ firstWord s) where
   named-names : (w : ℕ) → namedIn first (free s) (s .heap) w ≡ names tuple s w
   unfolding namedIn
-  named-names w = names-tests tuple tuple-adjacent s w (index tuple w) first fits refl e refl refl refl refl
+  named-names w =
+      let end : first + (free s - first) ≡ free s = omega (arith, fits) in
+      names-tests tuple tuple-adjacent s w (index tuple w) first fits refl e refl
+      (ap (λ (last : ℕ). leb first (index tuple w) && ltb (index tuple w) last) end) refl refl
 
   form-word : (w : ℕ) → formIn first (free s) (s .heap) w ≡ wordForm tuple s w
   unfolding formIn wordForm whyUnnamed

@@ -23,14 +23,20 @@ pub record Used (H : List ℕ) (first free : ℕ) : Type 0 where
 unfoldable pub namedIn : ℕ → ℕ → List ℕ → ℕ → Bool
 namedIn first free H w =
     let i = index tuple w in
-    eqb (w % 4) 0 && (leb first i && ltb i (first + (free - first))) && tuple .isHeader (at H i)
-    && ltb (tuple .countOf (at H i)) (free - i)
+    eqb (w % 4) 0 && (leb first i && ltb i free) && tuple .isHeader (at H i) && ltb (tuple .countOf (at H i)) (free - i)
 
 unfoldable pub whyUnnamed : ℕ → Refusal
 whyUnnamed w = cond (isNull w) Why.Value (cond (isCode w) Why.Value Why.Object)
 
 abbrev pub unnamedNumber : ℕ → ℕ
 unnamedNumber w = numberOf (whyUnnamed w)
+
+-- 0 where an even word names a tuple
+unfoldable pub textlessNumber : ℕ → ℕ → List ℕ → ℕ → ℕ
+textlessNumber first free H w =
+    cond (namedIn first free H w)
+    (cond (isTraced (tuple .kindOf (at H (index tuple w)))) 0 (numberOf Why.Value))
+    (unnamedNumber w)
 
 -- the n words after the one at i
 abbrev pub fieldsAt : List ℕ → ℕ → ℕ → List ℕ

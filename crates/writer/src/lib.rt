@@ -22,9 +22,9 @@ pub mod numerals;
 pub mod spelling;
 
 use measuring::REFUSED;
-use measuring::measure;
+use measuring::measure_root;
 use measuring::refusal_of;
-use spelling::spell;
+use spelling::spell_root;
 
 // Tuples nest so deep.
 pub const MAX_DEPTH: usize = 64;
@@ -45,10 +45,10 @@ pub fn write(heap: &[u32], roots: &[u32], record: Record, root: usize, text: &mu
     let half = record.half;
     let free = record.free.0;
     let first = first_of(half_words(heap.len()), half).0;
-    let left = measure(heap, first, free, text.len(), word, MAX_DEPTH);
+    let left = measure_root(heap, first, free, text.len(), word);
     if REFUSED <= left {
         return say(Answer::Refused(refusal_of(left)), record);
     }
-    let length = spell(heap, first, free, text, 0, word, MAX_DEPTH);
+    let length = spell_root(heap, first, free, text, word);
     say(Answer::Written(length), record)
 }

@@ -1,18 +1,19 @@
 // How many bytes are left once a value is written, or why it has no text: a value's measurer and a tuple's
 // that call each other, with one level fewer each time round. Nothing is written.
 //
-// Both answer by one number, which is returned in a register where an enum goes through memory: from
-// `REFUSED` up it says why.
+// They answer by one number, which is returned in a register where an enum goes through memory: from
+// `REFUSED` up it says why. The root's value has a measurer of its own, so that the other has one caller: the
+// compiler then takes it into the tuple's loop, where an integer costs no call.
 ghost use mathlib.Core.Path.{_≡_};
 ghost use Prim.Native.Nat.{_+_, _≤_, _<_};
-ghost use Rattle.model.specs.Texts.{valuePieces};
+ghost use Rattle.model.specs.Texts.{maxDepth, valuePieces};
 ghost use Rattle.writer.specs.Measured.{limit, whyOf, spent, measured};
-ghost use Rattle.writer.specs.Forms.{Used, namedIn, unnamedNumber, formIn};
+ghost use Rattle.writer.specs.Forms.{Used, namedIn, unnamedNumber, textlessNumber, formIn};
 ghost use Rattle.writer.specs.Tuples.{openingBytes, tupleIn};
+use crate::MAX_DEPTH;
 use crate::numerals::integer_bytes;
 use model::Address;
 use model::Refusal;
-use words::shape::in_run;
 use words::tuple::Tuple;
 use words::values::is_code;
 
@@ -62,7 +63,10 @@ fn named(heap: &[u32], first: usize, free: usize, word: u32) -> bool
         return false;
     }
     let at = Tuple::index_of(Address(word)).0;
-    if !in_run(at, first, free - first) {
+    if at < first {
+        return false;
+    }
+    if free <= at {
         return false;
     }
     let header = heap[at];
@@ -85,6 +89,21 @@ fn why_unnamed(word: u32) -> usize
     OBJECT
 }
 
+// Why an even word has no text, or 0 where it names a tuple.
+fn why_textless(heap: &[u32], first: usize, free: usize, word: u32) -> usize
+    requires { ⌜ Used (now heap) first free ⌝ }
+    ensures { λ r. ⌜ r ≡ textlessNumber first free (now (heap .entry)) word ⌝ }
+{
+    if !named(heap, first, free, word) {
+        return why_unnamed(word);
+    }
+    let object = Tuple::index_of(Address(word)).0;
+    if Tuple::is_traced(heap[object]) {
+        return 0;
+    }
+    VALUE
+}
+
 // What stands before the mark of a tuple's first field: `{1` of a field alone, `(` of none, and of more
 // nothing.
 fn opening_bytes(count: usize) -> usize
@@ -99,33 +118,40 @@ fn opening_bytes(count: usize) -> usize
     0
 }
 
-// What a word holds, with so many levels left. Integers and objects are met most often and come first.
-pub(crate) fn measure(
-    heap: &[u32],
-    first: usize,
-    free: usize,
-    room: usize,
-    word: u32,
-    depth: usize,
-) -> usize
+// What a root's word holds.
+pub(crate) fn measure_root(heap: &[u32], first: usize, free: usize, room: usize, word: u32) -> usize
+    requires { ⌜ (Used (now heap) first free) × (room < limit) ⌝ }
+    ensures { λ r. ⌜ r ≡ measured room (valuePieces (formIn first free (now (heap .entry))) maxDepth word) ⌝ }
+{
+    if word % 2 == 1 {
+        return spend(room, integer_bytes(word));
+    }
+    let why = why_textless(heap, first, free, word);
+    if why != 0 {
+        return why;
+    }
+    let object = Tuple::index_of(Address(word)).0;
+    let count = Tuple::count_of(heap[object]);
+    measure_tuple(heap, first, free, room, object, count, MAX_DEPTH - 1)
+}
+
+// What a field's word holds, with so many levels left.
+fn measure(heap: &[u32], first: usize, free: usize, room: usize, word: u32, depth: usize) -> usize
     requires { ⌜ (Used (now heap) first free) × (room < limit) ⌝ }
     ensures { λ r. ⌜ r ≡ measured room (valuePieces (formIn first free (now (heap .entry))) depth word) ⌝ }
 {
     if word % 2 == 1 {
         return spend(room, integer_bytes(word));
     }
-    if !named(heap, first, free, word) {
-        return why_unnamed(word);
-    }
-    let object = Tuple::index_of(Address(word)).0;
-    let header = heap[object];
-    if !Tuple::is_traced(header) {
-        return VALUE;
+    let why = why_textless(heap, first, free, word);
+    if why != 0 {
+        return why;
     }
     if depth == 0 {
         return DEEP;
     }
-    let count = Tuple::count_of(header);
+    let object = Tuple::index_of(Address(word)).0;
+    let count = Tuple::count_of(heap[object]);
     measure_tuple(heap, first, free, room, object, count, depth - 1)
 }
 
@@ -143,11 +169,11 @@ fn measure_tuple(
     requires { ⌜ (Used (now heap) first free) × ((room < limit) × (object + count < free)) ⌝ }
     ensures { λ r. ⌜ r ≡ measured room (tupleIn first free (now (heap .entry)) depth object count) ⌝ }
 {
-    let opened = spend(room, opening_bytes(count));
-    if REFUSED <= opened {
-        return opened;
+    let opening = opening_bytes(count);
+    if room < opening {
+        return TEXT;
     }
-    let mut left = opened;
+    let mut left = room - opening;
     let mut field = 0;
     while field < count {
         if left == 0 {

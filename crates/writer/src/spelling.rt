@@ -5,10 +5,11 @@ ghost use mathlib.Core.Path.{_≡_};
 ghost use mathlib.Core.List.{map};
 ghost use Prim.Native.Nat.{_+_, _≤_, _<_};
 ghost use lib.ListN.{length};
-ghost use Rattle.model.specs.Texts.{byte, valuePieces};
+ghost use Rattle.model.specs.Texts.{byte, maxDepth, valuePieces};
 ghost use Rattle.writer.specs.Going.{reached, goes, Arrives};
 ghost use Rattle.writer.specs.Forms.{Used, formIn};
 ghost use Rattle.writer.specs.Tuples.{opening, firstMark, closerOf, tupleIn};
+use crate::MAX_DEPTH;
 use crate::numerals::spell_integer;
 use model::Address;
 use words::tuple::Tuple;
@@ -64,8 +65,29 @@ fn closer_of(count: usize) -> u8
     CLOSER
 }
 
-// What a word holds, with so many levels left.
-pub(crate) fn spell(
+// What a root's word holds, from the first byte on.
+pub(crate) fn spell_root(
+    heap: &[u32],
+    first: usize,
+    free: usize,
+    text: &mut [u8],
+    word: u32,
+) -> usize
+    requires { ⌜ (Used (now heap) first free)
+        × Arrives (goes (valuePieces (formIn first free (now heap)) maxDepth word) 0 (now text)) ⌝ }
+    ensures { λ r. ⌜ reached r (now (text .exit))
+        ≡ goes (valuePieces (formIn first free (now (heap .entry))) maxDepth word) 0 (now (text .entry)) ⌝ }
+{
+    if word % 2 == 1 {
+        return spell_integer(text, 0, word);
+    }
+    let object = Tuple::index_of(Address(word)).0;
+    let count = Tuple::count_of(heap[object]);
+    spell_tuple(heap, first, free, text, 0, object, count, MAX_DEPTH - 1)
+}
+
+// What a field's word holds, with so many levels left.
+fn spell(
     heap: &[u32],
     first: usize,
     free: usize,

@@ -26,9 +26,9 @@ use Rattle.model.proofs.say.Reads as say-reads
 use Rattle.words.proofs.shape.bad_shape.Reads as bad-shape-reads
 use Rattle.words.proofs.shape.first_of.Reads as first-of-reads
 use Rattle.words.proofs.shape.half_words.Reads as half-words-reads
-use Rattle.writer.proofs.measuring.measure.Reads as measure-reads
+use Rattle.writer.proofs.measuring.measure_root.Reads as measure-root-reads
 use Rattle.writer.proofs.measuring.refusal_of.Reads as refusal-of-reads
-use Rattle.writer.proofs.spelling.spell.Reads as spell-reads
+use Rattle.writer.proofs.spelling.spell_root.Reads as spell-root-reads
 
 -- what the call was lent
 abbrev lent : tie.Start → State
@@ -98,8 +98,8 @@ first-of-requires c κs =
     let g = shaped (lent (start (found (c .before .before))))
     (shape (found (c .before .before))) in omega (arith, c .half-words .ensures)
 
-measure-requires : tie.Need-measure-requires
-measure-requires c κs = (used c, short c)
+measure-root-requires : tie.Need-measure-root-requires
+measure-root-requires c κs = (used c, short c)
 
 refusal-of-requires : tie.Need-refusal-of-requires
 refusal-of-requires c κs = search needs
@@ -111,17 +111,17 @@ returns-3 : tie.Need-returns-3
 returns-3 c =
     let based = c .before .before .before .before in
     let f = rooted based in
-    let left = c .before .before .before .measure in
+    let left = c .before .before .before .measure-root in
     said-text _ _ _ (c .say3 .ensures)
     (ap (λ (k : Refusal). says (Says.Refused k) (lent (start (found f)))) (c .before .refusal-of .ensures)
     ∙ write-refused _ (lent (start (found f))) (shape (found f)) (lt-leb _ _ (f .if2 .left)) _ (first based)
     (left .result) (left .ensures) (short based) (omega (arith, c .before .before .if3 .taken)))
 
-spell-requires : tie.Need-spell-requires
-spell-requires c κs =
+spell-root-requires : tie.Need-spell-root-requires
+spell-root-requires c κs =
     let based = c .before .before .before in
     let f = rooted based in
-    let left = c .before .before .measure in (
+    let left = c .before .before .measure-root in (
       used based,
       write-arrives _ (lent (start (found f))) (shape (found f)) (lt-leb _ _ (f .if2 .left)) _ (first based)
           (left .result) (left .ensures) (omega (arith, c .before .if3 .left)),
@@ -137,7 +137,7 @@ returns-4 : tie.Need-returns-4
 returns-4 c =
     let based = c .before .before .before .before .before .before .before in
     let f = rooted based in
-    let gone = c .before .before .before .spell in
+    let gone = c .before .before .before .spell-root in
     said-text _ _ _ (c .say4 .ensures)
     (write-spelt _ (lent (start (found f))) (shape (found f)) (lt-leb _ _ (f .if2 .left)) _ (first based)
     (gone .result) (gone .last .1 .1 .1 .0) (gone .ensures))
@@ -155,11 +155,11 @@ write-spec =
     shared-slice-read-word
     half-words-requires
     first-of-requires
-    measure-requires
+    measure-root-requires
     refusal-of-requires
     say-requires-3
     returns-3
-    spell-requires
+    spell-root-requires
     say-requires-4
     same-length
     returns-4)

@@ -9,14 +9,12 @@ use borrow.Author.Tests.{eq-eqb, ne-eqb, not-true, not-false}
 use lib.ListN.{length}
 use denote.Ref.{now}
 use Rattle.model.specs.declared.Refusal.the-variants as Why
-use Rattle.model.specs.Values.{untag}
-use Rattle.model.specs.Texts.{comma, integerText}
-use Rattle.writer.specs.Measured.{limit, measured, spent}
-use Rattle.writer.specs.Forms.{whyUnnamed}
-use Rattle.writer.specs.Tuples.{openingBytes, tupleIn}
-use Rattle.writer.proofs.Rooms.{at-fault, spent-bytes}
+use Rattle.model.specs.Texts.{comma}
+use Rattle.writer.specs.Measured.{limit, measured}
+use Rattle.writer.specs.Tuples.{tupleIn}
+use Rattle.writer.proofs.Rooms.{at-fault}
 use Rattle.writer.proofs.Fields.{restPieces, opening-stops, opening-on, mark-stops, field-stops, field-on, end-left}
-use Rattle.writer.proofs.Sorts.{odd-pieces, unnamed-pieces, untraced-pieces, deep-pieces, tuple-pieces, named-inside}
+use Rattle.writer.proofs.Sorts.{odd-left, deep-pieces, Told, number-told, number-stops, told-inside, told-pieces}
 use Prim.Native.Nat.{ℕ, _+_, _-_, _≤_, _<_}
 use borrow.Fn.Kinds.{In}
 use borrow.Fn.PlainCycle.{Measures, is, falls, and}
@@ -28,11 +26,9 @@ use Rattle.writer.proofs.measuring.measure_tuple.Kinds as measure-tuple
 use Rattle.writer.proofs.measuring.+measure+measure_tuple.Lts-measure_tuple as measure-tuple-lts
 use Rattle.words.proofs.tuple.Tuple.count_of.Reads as count-of-reads
 use Rattle.words.proofs.tuple.Tuple.index_of.Reads as index-of-reads
-use Rattle.words.proofs.tuple.Tuple.is_traced.Reads as is-traced-reads
-use Rattle.writer.proofs.measuring.named.Reads as named-reads
 use Rattle.writer.proofs.measuring.opening_bytes.Reads as opening-bytes-reads
 use Rattle.writer.proofs.measuring.spend.Reads as spend-reads
-use Rattle.writer.proofs.measuring.why_unnamed.Reads as why-unnamed-reads
+use Rattle.writer.proofs.measuring.why_textless.Reads as why-textless-reads
 use Rattle.writer.proofs.numerals.integer_bytes.Reads as integer-bytes-reads
 use Rattle.writer.proofs.measuring.+measure+measure_tuple.{statement}
 use Rattle.writer.proofs.measuring.+measure+measure_tuple.Tie.{close}
@@ -68,14 +64,10 @@ measure-calls t = (
   integer-bytes-reads.Learnt,
   spend-reads.Asked,
   spend-reads.Learnt,
-  named-reads.Asked,
-  named-reads.Learnt,
-  why-unnamed-reads.Asked,
-  why-unnamed-reads.Learnt,
+  why-textless-reads.Asked,
+  why-textless-reads.Learnt,
   index-of-reads.Asked,
   index-of-reads.Learnt,
-  is-traced-reads.Asked,
-  is-traced-reads.Learnt,
   count-of-reads.Asked,
   count-of-reads.Learnt,
   measure-tuple-below t,
@@ -91,168 +83,137 @@ measure-spend-requires t c κs = search needs
 measure-returns : (t : ℕ) → measure-lts.Need-returns (measure-calls t) (measure-at t) measure.Post
 measure-returns t c =
     let a = c .before .before .before .before .args in
-    c .spend .ensures
-    ∙ (ap (spent (a .room)) (c .before .integer-bytes .ensures)
-    ∙ (spent-bytes (integerText (untag (a .word))) (a .room)
-    ∙ ap (measured (a .room))
-    (odd-pieces (a .first) (a .free) (now (a .heap)) (a .depth) (a .word) (eq-eqb _ _ (c .before .before .if1 .taken)))))
+    odd-left (a .first) (a .free) (now (a .heap)) (a .depth) (a .word) (eq-eqb _ _ (c .before .before .if1 .taken)) (a .room)
+    _ _ (c .before .integer-bytes .ensures) (c .spend .ensures)
 
-measure-named-requires : (t : ℕ) → measure-lts.Need-named-requires (measure-calls t) (measure-at t) measure.Post
-measure-named-requires t c κs = c .before .before .pre .1 .0
-
-measure-why-unnamed-requires : (t : ℕ) → measure-lts.Need-why-unnamed-requires (measure-calls t) (measure-at t) measure.Post
-measure-why-unnamed-requires t c κs = search needs
+measure-why-textless-requires : (t : ℕ) → measure-lts.Need-why-textless-requires (measure-calls t) (measure-at t) measure.Post
+measure-why-textless-requires t c κs = c .before .before .pre .1 .0
 
 measure-returns-2 : (t : ℕ) → measure-lts.Need-returns-2 (measure-calls t) (measure-at t) measure.Post
 measure-returns-2 t c =
+    let a = c .before .before .before .before .args in
+    number-stops (a .first) (a .free) (now (a .heap)) (a .word) _ (c .before .why-textless .ensures) (a .depth) (a .room)
+    (ne-eqb _ _ (c .before .before .if1 .left)) (c .if2 .taken)
+
+-- past the tests of the word, which names a tuple
+measure-told : (t : ℕ) (c : measure-lts.Else2 (measure-calls t) (measure-at t) measure.Post)
+    → let a = c .before .before .before .before .args in Told (a .first) (a .free) (now (a .heap)) (a .word)
+measure-told t c =
+    let a = c .before .before .before .before .args in
+    number-told (a .first) (a .free) (now (a .heap)) (a .word) _ (c .before .why-textless .ensures) (c .if2 .left)
+
+measure-returns-3 : (t : ℕ) → measure-lts.Need-returns-3 (measure-calls t) (measure-at t) measure.Post
+measure-returns-3 t c =
     let a = c .before .before .before .before .before .args in
-    let tested = c .before .before in
-    c .why-unnamed .ensures
-    ∙ (at-fault (whyUnnamed (a .word)) (a .room)
+    let told = measure-told t (c .before) in
+    at-fault Why.Deep (a .room)
     ∙ ap (measured (a .room))
-    (unnamed-pieces (a .first) (a .free) (now (a .heap)) (a .depth) (a .word) (ne-eqb _ _ (tested .before .if1 .left))
-    (sym (tested .named .ensures) ∙ not-true _ (c .before .if2 .taken))))
+    (deep-pieces (a .first) (a .free) (now (a .heap)) (a .depth) (a .word) (ne-eqb _ _ (c .before .before .before .if1 .left))
+    _ refl (told .named) (told .traced) (c .if3 .taken))
 
 measure-index-of-requires : (t : ℕ) → measure-lts.Need-index-of-requires (measure-calls t) (measure-at t) measure.Post
 measure-index-of-requires t c κs = search needs
 
-measure-mul-header : (t : ℕ) → measure-lts.Need-mul-header (measure-calls t) (measure-at t) measure.Post
-measure-mul-header t c = search needs
+measure-mul-count-of : (t : ℕ) → measure-lts.Need-mul-count-of (measure-calls t) (measure-at t) measure.Post
+measure-mul-count-of t c = search needs
 
-measure-shared-slice-read-header : (t : ℕ) → measure-lts.Need-shared-slice-read-header (measure-calls t) (measure-at t) measure.Post
-measure-shared-slice-read-header t c =
-    let s = c .before .before .before .before .before .before in
+measure-shared-slice-read-count-of : (t : ℕ) → measure-lts.Need-shared-slice-read-count-of (measure-calls t) (measure-at t) measure.Post
+measure-shared-slice-read-count-of t c =
+    let s = c .before .before .before .before .before .before .before in
     let a = s .args in
     omega (
       arith,
       s .pre .1 .0,
-      named-inside (a .first) (a .free) (now (a .heap)) (a .word) _ _ (c .before .index-of .ensures) refl
-          (sym (c .before .before .before .named .ensures) ∙ not-false _ (c .before .before .if2 .left)),
+      told-inside (a .first) (a .free) (now (a .heap)) (a .word) _ _ (c .before .index-of .ensures) refl
+          (measure-told t (c .before .before .before)),
     )
-
-measure-is-traced-requires : (t : ℕ) → measure-lts.Need-is-traced-requires (measure-calls t) (measure-at t) measure.Post
-measure-is-traced-requires t c κs = search needs
-
-measure-returns-3 : (t : ℕ) → measure-lts.Need-returns-3 (measure-calls t) (measure-at t) measure.Post
-measure-returns-3 t c =
-    let a = c .before .before .before .before .before .before .before .before .args in
-    let tested = c .before .before .before .before .before in
-    at-fault Why.Value (a .room)
-    ∙ ap (measured (a .room))
-    (untraced-pieces (a .first) (a .free) (now (a .heap)) (a .depth) (a .word) (ne-eqb _ _ (tested .before .if1 .left))
-    _ (c .before .before .before .index-of .ensures)
-    (sym (tested .named .ensures) ∙ not-false _ (c .before .before .before .before .if2 .left))
-    (sym (c .before .is-traced .ensures) ∙ not-true _ (c .if3 .taken)))
-
-measure-returns-4 : (t : ℕ) → measure-lts.Need-returns-4 (measure-calls t) (measure-at t) measure.Post
-measure-returns-4 t c =
-    let a = c .before .before .before .before .before .before .before .before .before .args in
-    let tested = c .before .before .before .before .before .before in
-    at-fault Why.Deep (a .room)
-    ∙ ap (measured (a .room))
-    (deep-pieces (a .first) (a .free) (now (a .heap)) (a .depth) (a .word) (ne-eqb _ _ (tested .before .if1 .left))
-    _ (c .before .before .before .before .index-of .ensures)
-    (sym (tested .named .ensures) ∙ not-false _ (c .before .before .before .before .before .if2 .left))
-    (sym (c .before .before .is-traced .ensures) ∙ not-false _ (c .before .if3 .left)) (c .if4 .taken))
 
 measure-count-of-requires : (t : ℕ) → measure-lts.Need-count-of-requires (measure-calls t) (measure-at t) measure.Post
 measure-count-of-requires t c κs = search needs
 
 measure-sub-measure-tuple : (t : ℕ) → measure-lts.Need-sub-measure-tuple (measure-calls t) (measure-at t) measure.Post
-measure-sub-measure-tuple t c = pos-of-ne-zero (c .before .if4 .left)
+measure-sub-measure-tuple t c = pos-of-ne-zero (c .before .before .before .if3 .left)
 
 measure-measure-tuple-requires : (t : ℕ) → measure-lts.Need-measure-tuple-requires (measure-calls t) (measure-at t) measure.Post
 measure-measure-tuple-requires t c κs =
-    let s = c .before .before .before .before .before .before .before .before .before .before in
+    let s = c .before .before .before .before .before .before .before .before in
     let a = s .args in
-    let some = pos-of-ne-zero (c .before .if4 .left) in (
+    let some = pos-of-ne-zero (c .before .before .before .if3 .left) in (
       omega (arith, s .pre .0),
       (
         s .pre .1 .0,
         (
           s .pre .1 .1,
-          named-inside (a .first) (a .free) (now (a .heap)) (a .word) _ _
-              (c .before .before .before .before .before .index-of .ensures) (c .count-of .ensures .0)
-              (sym (c .before .before .before .before .before .before .before .named .ensures) ∙ not-false _
-              (c .before .before .before .before .before .before .if2 .left)),
+          told-inside (a .first) (a .free) (now (a .heap)) (a .word) _ _ (c .before .before .index-of .ensures)
+              (c .count-of .ensures .0) (measure-told t (c .before .before .before .before)),
         ),
       ),
     )
 
-measure-returns-5 : (t : ℕ) → measure-lts.Need-returns-5 (measure-calls t) (measure-at t) measure.Post
-measure-returns-5 t c =
-    let a = c .before .before .before .before .before .before .before .before .before .before .before .args in
-    let tested = c .before .before .before .before .before .before .before .before in
+measure-returns-4 : (t : ℕ) → measure-lts.Need-returns-4 (measure-calls t) (measure-at t) measure.Post
+measure-returns-4 t c =
+    let a = c .before .before .before .before .before .before .before .before .before .args in
+    let tested = c .before .before .before .before .before in
     c .measure-tuple .ensures
     ∙ ap (measured (a .room))
-    (tuple-pieces (a .first) (a .free) (now (a .heap)) (a .depth) (a .word) (ne-eqb _ _ (tested .before .if1 .left))
-    _ (c .before .before .before .before .before .before .index-of .ensures)
-    (sym (tested .named .ensures) ∙ not-false _ (c .before .before .before .before .before .before .before .if2 .left))
-    (sym (c .before .before .before .before .is-traced .ensures) ∙ not-false _ (c .before .before .before .if3 .left)) _
-    (c .before .before .if4 .left) (c .before .count-of .ensures .0))
+    (told-pieces (a .first) (a .free) (now (a .heap)) (a .word) _ _ (c .before .before .before .index-of .ensures)
+    (c .before .count-of .ensures .0) (measure-told t tested) (a .depth) (ne-eqb _ _ (tested .before .before .if1 .left))
+    (c .before .before .before .before .if3 .left))
 
 abbrev measure-tuple-Inv-loop : measure-tuple-lts.InvT-loop
-measure-tuple-Inv-loop heap first free room object count depth opened left₀ field₀ left field = (field ≤ count) ×
+measure-tuple-Inv-loop heap first free room object count depth bytes left₀ field₀ left field = (field ≤ count) ×
     (left < limit)
     × (measured left (restPieces first free heap depth object count comma field)
     ≡ measured left₀ (restPieces first free heap depth object count comma field₀))
 
 abbrev measure-tuple-μ-loop : measure-tuple-lts.MeasureT-loop
-measure-tuple-μ-loop heap first free room object count depth opened left₀ field₀ left field = count - field
+measure-tuple-μ-loop heap first free room object count depth bytes left₀ field₀ left field = count - field
 
 -- what measure_tuple calls
 abbrev measure-tuple-calls : ℕ → measure-tuple-lts.Claims
 measure-tuple-calls t = (
   opening-bytes-reads.Asked,
   opening-bytes-reads.Learnt,
-  spend-reads.Asked,
-  spend-reads.Learnt,
   measure-below t,
   measure.Post,
+  spend-reads.Asked,
+  spend-reads.Learnt,
 )
 
 measure-tuple-opening-bytes-requires : (t : ℕ) → measure-tuple-lts.Need-opening-bytes-requires (measure-tuple-calls t) (measure-tuple-at t) measure-tuple.Post measure-tuple-Inv-loop measure-tuple-μ-loop
 measure-tuple-opening-bytes-requires t c κs = search needs
-
-measure-tuple-spend-requires : (t : ℕ) → measure-tuple-lts.Need-spend-requires (measure-tuple-calls t) (measure-tuple-at t) measure-tuple.Post measure-tuple-Inv-loop measure-tuple-μ-loop
-measure-tuple-spend-requires t c κs = search needs
 
 -- the object's fields lie in the heap
 measure-within : (t : ℕ) (c : measure-tuple-lts.Start (measure-tuple-calls t) (measure-tuple-at t) measure-tuple.Post measure-tuple-Inv-loop measure-tuple-μ-loop)
     → c .args .object + c .args .count < length (now (c .args .heap))
 measure-within t c = omega (arith, c .pre .1)
 
--- what opens the tuple
-measure-opens : (t : ℕ) (c : measure-tuple-lts.After-spend (measure-tuple-calls t) (measure-tuple-at t) measure-tuple.Post measure-tuple-Inv-loop measure-tuple-μ-loop)
-    → c .spend .result ≡ spent (c .before .before .before .args .room) (openingBytes (c .before .before .before .args .count))
-measure-opens t c = c .spend .ensures ∙ ap (spent (c .before .before .before .args .room)) (c .before .opening-bytes .ensures)
-
 -- at the loop's head: after what is left there is left what is left after all of it
 measure-left : (t : ℕ) (c : measure-tuple-lts.At-loop (measure-tuple-calls t) (measure-tuple-at t) measure-tuple.Post measure-tuple-Inv-loop measure-tuple-μ-loop)
-    → let a = c .before .before .before .before .before .args in
+    → let a = c .before .before .before .before .args in
     measured (c .loop .left)
     (restPieces (a .first) (a .free) (now (a .heap)) (a .depth) (a .object) (a .count) comma (c .loop .field)) ≡ measured
     (a .room) (tupleIn (a .first) (a .free) (now (a .heap)) (a .depth) (a .object) (a .count))
 measure-left t c =
-    let s = c .before .before .before .before .before in
+    let s = c .before .before .before .before in
     let a = s .args in
     c .loop .inv .2
     ∙ opening-on (a .first) (a .free) (now (a .heap)) (a .depth) (a .object) (a .count) (measure-within t s) (a .room)
-    (c .before .before .spend .result) (measure-opens t (c .before .before)) (c .before .if1 .left)
+    _ (c .before .before .opening-bytes .ensures) (s .pre .1 .1 .0) (c .before .if1 .left)
 
 measure-tuple-returns : (t : ℕ) → measure-tuple-lts.Need-returns (measure-tuple-calls t) (measure-tuple-at t) measure-tuple.Post measure-tuple-Inv-loop measure-tuple-μ-loop
 measure-tuple-returns t c =
-    let s = c .before .before .before .before in
+    let s = c .before .before .before in
     let a = s .args in
     opening-stops (a .first) (a .free) (now (a .heap)) (a .depth) (a .object) (a .count) (measure-within t s) (a .room)
-    (c .before .spend .result) (measure-opens t (c .before)) (s .pre .1 .1 .0) (c .if1 .taken)
+    _ (c .before .opening-bytes .ensures) (s .pre .1 .1 .0) (c .if1 .taken)
 
 measure-tuple-loop-holds : (t : ℕ) → measure-tuple-lts.Need-loop-holds (measure-tuple-calls t) (measure-tuple-at t) measure-tuple.Post measure-tuple-Inv-loop measure-tuple-μ-loop
-measure-tuple-loop-holds t c = (omega arith, omega (arith, c .if1 .left), refl)
+measure-tuple-loop-holds t c = (omega arith, omega (arith, c .before .before .before .pre .1 .1 .0), refl)
 
 measure-tuple-returns-2 : (t : ℕ) → measure-tuple-lts.Need-returns-2 (measure-tuple-calls t) (measure-tuple-at t) measure-tuple.Post measure-tuple-Inv-loop measure-tuple-μ-loop
 measure-tuple-returns-2 t c =
-    let s = c .before .before .before .before .before .before .before in
+    let s = c .before .before .before .before .before .before in
     let a = s .args in
     let l = c .before .before .loop in
     mark-stops (a .first) (a .free) (now (a .heap)) (a .depth) (a .object) (a .count) (measure-within t s) (l .left)
@@ -275,13 +236,13 @@ measure-tuple-sub-measure t c = pos-of-ne-zero (c .before .if2 .left)
 
 measure-tuple-measure-requires : (t : ℕ) → measure-tuple-lts.Need-measure-requires (measure-tuple-calls t) (measure-tuple-at t) measure-tuple.Post measure-tuple-Inv-loop measure-tuple-μ-loop
 measure-tuple-measure-requires t c κs =
-    let s = c .before .before .before .before .before .before .before .before in
+    let s = c .before .before .before .before .before .before .before in
     let l = c .before .before .before .loop in
     (omega (arith, s .pre .0), (s .pre .1 .0, omega (arith, l .inv .1)))
 
 measure-tuple-returns-3 : (t : ℕ) → measure-tuple-lts.Need-returns-3 (measure-tuple-calls t) (measure-tuple-at t) measure-tuple.Post measure-tuple-Inv-loop measure-tuple-μ-loop
 measure-tuple-returns-3 t c =
-    let s = c .before .before .before .before .before .before .before .before .before .before in
+    let s = c .before .before .before .before .before .before .before .before .before in
     let a = s .args in
     let l = c .before .before .before .before .before .loop in
     let next = c .before .measure in
@@ -299,7 +260,7 @@ measure-tuple-loop-less t c = search needs
 
 measure-tuple-loop-again : (t : ℕ) → measure-tuple-lts.Need-loop-again (measure-tuple-calls t) (measure-tuple-at t) measure-tuple.Post measure-tuple-Inv-loop measure-tuple-μ-loop
 measure-tuple-loop-again t c =
-    let s = c .before .before .before .before .before .before .before .before .before .before in
+    let s = c .before .before .before .before .before .before .before .before .before in
     let a = s .args in
     let l = c .before .before .before .before .before .loop in
     let next = c .before .measure in (
@@ -312,40 +273,36 @@ measure-tuple-loop-again t c =
           ∙ l .inv .2,
     )
 
-measure-tuple-spend-requires-2 : (t : ℕ) → measure-tuple-lts.Need-spend-requires-2 (measure-tuple-calls t) (measure-tuple-at t) measure-tuple.Post measure-tuple-Inv-loop measure-tuple-μ-loop
-measure-tuple-spend-requires-2 t c κs = search needs
+measure-tuple-spend-requires : (t : ℕ) → measure-tuple-lts.Need-spend-requires (measure-tuple-calls t) (measure-tuple-at t) measure-tuple.Post measure-tuple-Inv-loop measure-tuple-μ-loop
+measure-tuple-spend-requires t c κs = search needs
 
 measure-tuple-returns-4 : (t : ℕ) → measure-tuple-lts.Need-returns-4 (measure-tuple-calls t) (measure-tuple-at t) measure-tuple.Post measure-tuple-Inv-loop measure-tuple-μ-loop
 measure-tuple-returns-4 t c =
-    let s = c .before .before .before .before .before .before .before in
+    let s = c .before .before .before .before .before .before in
     let a = s .args in
     let l = c .before .before .loop in
     end-left (a .first) (a .free) (now (a .heap)) (a .depth) (a .object) (a .count) (measure-within t s) (l .left) (l .field)
-    _ (c .before .loop-test .left) (c .spend2 .ensures) ∙ measure-left t (c .before .before)
+    _ (c .before .loop-test .left) (c .spend .ensures) ∙ measure-left t (c .before .before)
 
 pub +measure+measure-tuple-spec : {M : Type 1} → statement M
 +measure+measure-tuple-spec = close μ-measure μ-measure-tuple (λ t. measure-lts.spec (measure-calls t) (measure-at t) measure.Post
     (measure-integer-bytes-requires t)
     (measure-spend-requires t)
     (measure-returns t)
-    (measure-named-requires t)
-    (measure-why-unnamed-requires t)
+    (measure-why-textless-requires t)
     (measure-returns-2 t)
-    (measure-index-of-requires t)
-    (measure-mul-header t)
-    (measure-shared-slice-read-header t)
-    (measure-is-traced-requires t)
     (measure-returns-3 t)
-    (measure-returns-4 t)
+    (measure-index-of-requires t)
+    (measure-mul-count-of t)
+    (measure-shared-slice-read-count-of t)
     (measure-count-of-requires t)
     (measure-sub-measure-tuple t)
     (measure-measure-tuple-requires t)
-    (measure-returns-5 t))
+    (measure-returns-4 t))
     λ t. measure-tuple-lts.spec (measure-tuple-calls t) (measure-tuple-at t) measure-tuple.Post
     measure-tuple-Inv-loop
     measure-tuple-μ-loop
     (measure-tuple-opening-bytes-requires t)
-    (measure-tuple-spend-requires t)
     (measure-tuple-returns t)
     (measure-tuple-loop-holds t)
     (measure-tuple-returns-2 t)
@@ -359,5 +316,5 @@ pub +measure+measure-tuple-spec : {M : Type 1} → statement M
     (measure-tuple-add-field t)
     (measure-tuple-loop-less t)
     (measure-tuple-loop-again t)
-    (measure-tuple-spend-requires-2 t)
+    (measure-tuple-spend-requires t)
     (measure-tuple-returns-4 t)

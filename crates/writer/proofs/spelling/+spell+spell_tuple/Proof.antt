@@ -14,7 +14,8 @@ use Rattle.writer.specs.Going.{goes, Arrives}
 use Rattle.writer.specs.Tuples.{tupleIn}
 use Rattle.writer.proofs.Fields.{restPieces, opening-room, opening-goes, mark-room, field-arrives, field-goes}
 use Rattle.writer.proofs.Fields.{end-room, end-goes}
-use Rattle.writer.proofs.Sorts.{odd-pieces, odd-room, Told, arrives-told, told-pieces, told-inside}
+use Rattle.writer.proofs.Sorts.{odd-pieces, odd-room, Told, arrives-told, arrives-levels}
+use Rattle.writer.proofs.Sorts.{told-inside, told-pieces}
 use Prim.Native.Nat.{ℕ, _+_, _-_, _≤_, _<_}
 use borrow.Fn.Kinds.{In}
 use borrow.Fn.PlainCycle.{Measures, is, falls, and}
@@ -67,13 +68,22 @@ spell-calls t = (
 )
 
 -- an even word names a tuple
-spell-told : (t : ℕ) (c : spell-lts.Else1 (spell-calls t) (spell-at t) spell.Post) → let a = c .before .before .before .args in Told (a .first) (a .free) (now (a .heap)) (a .depth)
-    (a .word)
+spell-told : (t : ℕ) (c : spell-lts.Else1 (spell-calls t) (spell-at t) spell.Post)
+    → let a = c .before .before .before .args in Told (a .first) (a .free) (now (a .heap)) (a .word)
 spell-told t c =
     let s = c .before .before .before in
     let a = s .args in
     arrives-told (a .first) (a .free) (now (a .heap)) (a .depth) (a .word) (a .at) (now (a .text)) (ne-eqb _ _ (c .if1 .left))
     (s .pre .1 .1)
+
+-- and a level is left
+spell-levels : (t : ℕ) (c : spell-lts.Else1 (spell-calls t) (spell-at t) spell.Post)
+    → c .before .before .before .args .depth ≡ 0 → ⊥
+spell-levels t c =
+    let s = c .before .before .before in
+    let a = s .args in
+    arrives-levels (a .first) (a .free) (now (a .heap)) (a .depth) (a .word) (a .at) (now (a .text))
+    (ne-eqb _ _ (c .if1 .left)) (s .pre .1 .1)
 
 spell-spell-integer-requires : (t : ℕ) → spell-lts.Need-spell-integer-requires (spell-calls t) (spell-at t) spell.Post
 spell-spell-integer-requires t c κs =
@@ -105,15 +115,15 @@ spell-shared-slice-read-count-of t c =
     omega (
       arith,
       s .pre .1 .0,
-      told-inside (a .first) (a .free) (now (a .heap)) (a .depth) (a .word) (ne-eqb _ _ (c .before .before .if1 .left)) _ _
-          (c .before .index-of .ensures) refl (spell-told t (c .before .before)),
+      told-inside (a .first) (a .free) (now (a .heap)) (a .word) _ _ (c .before .index-of .ensures) refl
+          (spell-told t (c .before .before)),
     )
 
 spell-count-of-requires : (t : ℕ) → spell-lts.Need-count-of-requires (spell-calls t) (spell-at t) spell.Post
 spell-count-of-requires t c κs = search needs
 
 spell-sub-spell-tuple : (t : ℕ) → spell-lts.Need-sub-spell-tuple (spell-calls t) (spell-at t) spell.Post
-spell-sub-spell-tuple t c = pos-of-ne-zero (spell-told t (c .before .before .before .before) .levels)
+spell-sub-spell-tuple t c = pos-of-ne-zero (spell-levels t (c .before .before .before .before))
 
 spell-spell-tuple-requires : (t : ℕ) → spell-lts.Need-spell-tuple-requires (spell-calls t) (spell-at t) spell.Post
 spell-spell-tuple-requires t c κs =
@@ -121,16 +131,18 @@ spell-spell-tuple-requires t c κs =
     let a = s .args in
     let told = spell-told t (c .before .before .before .before) in
     let even = ne-eqb _ _ (c .before .before .before .before .if1 .left) in
-    let some = pos-of-ne-zero (told .levels) in (
+    let levels = spell-levels t (c .before .before .before .before) in
+    let some = pos-of-ne-zero levels in (
       omega (arith, s .pre .0),
       (
         s .pre .1 .0,
         (
-          told-inside (a .first) (a .free) (now (a .heap)) (a .depth) (a .word) even _ _
-              (c .before .before .before .index-of .ensures) (c .before .count-of .ensures .0) told,
+          told-inside (a .first) (a .free) (now (a .heap)) (a .word) _ _ (c .before .before .before .index-of .ensures)
+              (c .before .count-of .ensures .0) told,
           subst (λ (ps : List Piece). Arrives (goes ps (a .at) (now (a .text))))
-              (sym (told-pieces (a .first) (a .free) (now (a .heap)) (a .depth) (a .word) even _ _
-              (c .before .before .before .index-of .ensures) (c .before .count-of .ensures .0) told)) (s .pre .1 .1),
+              (sym (told-pieces (a .first) (a .free) (now (a .heap)) (a .word) _ _
+              (c .before .before .before .index-of .ensures) (c .before .count-of .ensures .0) told (a .depth) even levels))
+              (s .pre .1 .1),
         ),
       ),
     )
@@ -140,14 +152,14 @@ spell-same-length-2 t c = c .before .before .spell-tuple .kept .1 .1 .1 .0
 
 spell-returns-2 : (t : ℕ) → spell-lts.Need-returns-2 (spell-calls t) (spell-at t) spell.Post
 spell-returns-2 t c =
-    let a = c .before .before .before .before .before .before .before .before .before .before .args in
+    let even = c .before .before .before .before .before .before .before in
+    let a = even .before .before .before .args in
     c .before .before .spell-tuple .ensures
     ∙ ap (λ (ps : List Piece). goes ps (a .at) (now (a .text)))
-    (told-pieces (a .first) (a .free) (now (a .heap)) (a .depth) (a .word)
-    (ne-eqb _ _ (c .before .before .before .before .before .before .before .if1 .left)) _ _
+    (told-pieces (a .first) (a .free) (now (a .heap)) (a .word) _ _
     (c .before .before .before .before .before .before .index-of .ensures)
     (c .before .before .before .before .count-of .ensures .0)
-    (spell-told t (c .before .before .before .before .before .before .before)))
+    (spell-told t even) (a .depth) (ne-eqb _ _ (even .if1 .left)) (spell-levels t even))
 
 abbrev spell-tuple-Inv-loop : spell-tuple-lts.InvT-loop
 spell-tuple-Inv-loop heap first free text₀ at object count depth place₀ mark₀ field₀ text place mark field = (field ≤ count) ×
