@@ -1,4 +1,4 @@
--- What is left of so many bytes: after a byte, after bytes, after what follows, and what all of it comes to.
+-- What is left of so many bytes: after bytes, after what follows, and what all of it comes to.
 use Prim.Native.Nat.{ℕ, zero, suc, _+_, _-_, _≤_, _<_}
 use native.Mathlib.Omega.{arith}
 use mathlib.Core.Path.{_≡_, refl, ap, _∙_}
@@ -26,27 +26,11 @@ number-above Why.Value = omega arith
 number-above Why.Deep = omega arith
 number-above Why.Text = omega arith
 
--- ---- a fault, a byte and bytes
+-- ---- a fault and bytes
 
 pub at-fault : (k : Refusal) (n : ℕ) → numberOf k ≡ measured n (fault k ∷ [])
 unfolding measured
 at-fault k n = refl
-
-pub no-room : (b : ℕ) (ps : List Piece) (n : ℕ) → n ≡ 0 → numberOf Why.Text ≡ measured n (byte b ∷ ps)
-unfolding measured
-no-room b ps zero e = refl
-no-room b ps (suc n) e = absurd (omega arith)
-
-pub one-less : (b : ℕ) (ps : List Piece) (n : ℕ) → (n ≡ 0 → ⊥) → measured (n - 1) ps ≡ measured n (byte b ∷ ps)
-unfolding measured
-one-less b ps zero z = absurd (z refl)
-one-less b ps (suc n) z = ap (λ (m : ℕ). measured m ps) (omega arith)
-
--- which byte it is makes no difference
-pub any-byte : (b c : ℕ) (ps : List Piece) (n : ℕ) → measured n (byte b ∷ ps) ≡ measured n (byte c ∷ ps)
-unfolding measured
-any-byte b c ps zero = refl
-any-byte b c ps (suc n) = refl
 
 pub none-left : (n k : ℕ) → n < k → numberOf Why.Text ≡ spent n k
 none-left n k h = simp (lt-ltb n k h)

@@ -12,14 +12,14 @@ use Rattle.model.specs.declared.Refusal.the-variants as Why
 use Rattle.model.specs.Words.{at}
 use Rattle.model.specs.Values.{isOdd, untag}
 use Rattle.model.specs.Headers.{tuple}
-use Rattle.model.specs.Objects.{index, isTraced}
+use Rattle.model.specs.Objects.{index, fieldCount, isTraced}
 use Rattle.model.specs.Texts.{Form, asTuple, Piece, byte, fault, integerText, tuplePieces, valuePieces, enclosed}
 use mathlib.Core.Logic.{⊎-elim}
 use Rattle.model.proofs.Tests.{by-test, and-both}
 use Rattle.writer.specs.Forms.{namedIn, whyUnnamed, textlessNumber, fieldsAt, formIn}
 use Rattle.writer.specs.Going.{goes, Arrives}
 use Rattle.writer.specs.Measured.{numberOf, measured, spent}
-use Rattle.writer.specs.Tuples.{tupleIn}
+use Rattle.writer.specs.Tuples.{objectIn}
 use Rattle.writer.proofs.Steps.{no-fault, room-for-bytes}
 use Rattle.writer.proofs.Rooms.{number-above, at-fault, spent-bytes}
 use Rattle.writer.proofs.Digits.{some-byte}
@@ -55,7 +55,7 @@ module _ (first last : ℕ) (H : List ℕ) (d w : ℕ) where
       untraced-pieces u = let v = rw e at u in simp (even, named, v)
 
       module _ (traced : isTraced (tuple .kindOf (at H i)) ≡ true) where
-        as-tuple : formIn first last H w ≡ asTuple (fieldsAt H i (tuple .countOf (at H i)))
+        as-tuple : formIn first last H w ≡ asTuple (fieldsAt H i (fieldCount tuple H i))
         unfolding formIn
         as-tuple = let v = rw e at traced in simp (even, named, v, e)
 
@@ -63,25 +63,25 @@ module _ (first last : ℕ) (H : List ℕ) (d w : ℕ) where
         unfolding tuplePieces
         deep-pieces z = rw (as-tuple, z)
 
-        tuple-pieces : (n : ℕ) → (d ≡ 0 → ⊥) → n ≡ tuple .countOf (at H i) → tupleIn first last H (d - 1) i n ≡ pieces
-        tuple-pieces n z f = rw (as-tuple, f) (sym (tuple-more (formIn first last H) d z _))
+        tuple-pieces : (d ≡ 0 → ⊥) → objectIn first last H (d - 1) i ≡ pieces
+        tuple-pieces z = rw as-tuple (sym (tuple-more (formIn first last H) d z _))
 
 -- the name by five tests, whatever each comes to, at the index as the code has it
 pub named-tests : {b c u h l : Bool} (first last : ℕ) (H : List ℕ) (w i : ℕ) → i ≡ index tuple w → eqb (w % 4) 0 ≡ b
-    → leb first i ≡ c → ltb i last ≡ u → tuple .isHeader (at H i) ≡ h → ltb (tuple .countOf (at H i)) (last - i) ≡ l
+    → leb first i ≡ c → ltb i last ≡ u → tuple .isHeader (at H i) ≡ h → ltb (fieldCount tuple H i) (last - i) ≡ l
     → (b && (c && u) && h && l) ≡ namedIn first last H w
 unfolding namedIn
 named-tests first last H w i e pb pc pu ph pl = simp (sym e, pb, pc, pu, ph, pl)
 
 -- an object that is named ends before the free index
-pub named-inside : (first last : ℕ) (H : List ℕ) (w i n : ℕ) → i ≡ index tuple w → n ≡ tuple .countOf (at H i)
-    → namedIn first last H w ≡ true → i + n < last
+pub named-inside : (first last : ℕ) (H : List ℕ) (w i : ℕ) → i ≡ index tuple w → namedIn first last H w ≡ true
+    → i + fieldCount tuple H i < last
 unfolding namedIn
-named-inside first last H w i n e f t =
+named-inside first last H w i e t =
     let j = index tuple w in
     let a = and-both (eqb (w % 4) 0 && (leb first j && ltb j last) && tuple .isHeader (at H j)) _ t in
-    let l = ltb-true (tuple .countOf (at H j)) (last - j) (a .1) in
-    let m : tuple .countOf (at H (index tuple w)) ≡ n = ap (λ (j : ℕ). tuple .countOf (at H j)) (sym e) ∙ sym f in
+    let l = ltb-true (fieldCount tuple H j) (last - j) (a .1) in
+    let m : fieldCount tuple H j ≡ fieldCount tuple H i = ap (λ (k : ℕ). fieldCount tuple H k) (sym e) in
     omega arith
 
 -- an even word names a tuple
@@ -160,14 +160,13 @@ module _ (first last : ℕ) (H : List ℕ) (d w place : ℕ) (t : List ℕ) wher
       (subst (λ (ps : List Piece). Arrives (goes ps place t)) (sym (odd-pieces first last H d w o)) a)
 
 -- what a tuple's word is written by
-module _ (first last : ℕ) (H : List ℕ) (w i n : ℕ) (e : i ≡ index tuple w) (f : n ≡ tuple .countOf (at H i))
-    (told : Told first last H w) where
-  pub told-inside : i + n < last
-  told-inside = named-inside first last H w i n e f (told .named)
+module _ (first last : ℕ) (H : List ℕ) (w i : ℕ) (e : i ≡ index tuple w) (told : Told first last H w) where
+  pub told-inside : i + fieldCount tuple H i < last
+  told-inside = named-inside first last H w i e (told .named)
 
-  pub told-pieces : (d : ℕ) → isOdd w ≡ false → (d ≡ 0 → ⊥) → tupleIn first last H (d - 1) i n
-      ≡ valuePieces (formIn first last H) d w
+  pub told-pieces : (d : ℕ) → isOdd w ≡ false → (d ≡ 0 → ⊥)
+      → objectIn first last H (d - 1) i ≡ valuePieces (formIn first last H) d w
   told-pieces d even levels =
       tuple-pieces first last H d w even i e (told .named)
       (ap (λ (j : ℕ). isTraced (tuple .kindOf (at H j))) e ∙ told .traced)
-      n levels f
+      levels

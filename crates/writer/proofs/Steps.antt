@@ -14,10 +14,6 @@ use Rattle.model.specs.Texts.{Piece, byte, fault, Spelled, whole, broken, behin
 use Rattle.model.proofs.Tests.{decide}
 use Rattle.writer.specs.Going.{Walked, reached, stopped, goes, andThen, Arrives}
 
-pub nothing : (at : ℕ) (t : List ℕ) → reached at t ≡ goes [] at t
-unfolding goes
-nothing at t = refl
-
 pub one-byte : (b : ℕ) (ps : List Piece) (at : ℕ) (t : List ℕ) → at < length t
     → goes ps (at + 1) (set t at b) ≡ goes (byte b ∷ ps) at t
 unfolding goes
@@ -74,10 +70,6 @@ pub room-for-bytes : (bs : List ℕ) (at : ℕ) (t : List ℕ) → 1 ≤ length 
 room-for-bytes [] at t l a = absurd (omega arith)
 room-for-bytes (b ∷ bs) at t l a = bytes-room (b ∷ bs) at t (omega (arith, room-for b (map byte bs) at t a)) a
 
-pub room-before : (bs : List ℕ) (at : ℕ) (t : List ℕ) → at < length t → Arrives (goes (map byte bs) at t)
-    → at + length bs ≤ length t
-room-before bs at t l a = bytes-room bs at t (omega arith) a
-
 -- ---- what it comes to
 
 -- of bytes t from a place on, by the pieces' bytes or why they have none
@@ -112,3 +104,21 @@ bytes-fit bs at t h =
     sym
     (goes-spelled (map byte bs) at (length t - at) t (omega arith)
     ∙ ap (comes at t) (bytes-whole bs (length t - at) (omega arith)))
+
+-- one, two and three bytes, as the code sets them
+module _ (at : ℕ) (t : List ℕ) where
+  pub one-fits : (b : ℕ) → at + 1 ≤ length t → reached (at + 1) (set t at b) ≡ goes (byte b ∷ []) at t
+  one-fits b h = bytes-fit (b ∷ []) at t h
+
+  pub two-fit : (b c : ℕ) → at + 2 ≤ length t
+      → reached (at + 2) (set (set t at b) (at + 1) c) ≡ goes (byte b ∷ byte c ∷ []) at t
+  two-fit b c h =
+      ap (λ (k : ℕ). reached (at + 2) (set (set t at b) k c)) (add-one at) ∙ bytes-fit (b ∷ c ∷ []) at t h
+
+  pub three-fit : (b c d : ℕ) → at + 3 ≤ length t
+      → reached (at + 3) (set (set (set t at b) (at + 1) c) (at + 2) d) ≡ goes (byte b ∷ byte c ∷ byte d ∷ []) at t
+  three-fit b c d h =
+      let two : at + 2 ≡ suc (suc at) = omega arith in
+      ap (λ (k : ℕ). reached (at + 3) (set (set (set t at b) k c) (at + 2) d)) (add-one at)
+      ∙ (ap (λ (k : ℕ). reached (at + 3) (set (set (set t at b) (suc at) c) k d)) two
+      ∙ bytes-fit (b ∷ c ∷ d ∷ []) at t h)

@@ -10,7 +10,7 @@ use Rattle.model.specs.declared.Refusal.the-variants as Why
 use Rattle.model.specs.Words.{at}
 use Rattle.model.specs.Values.{isOdd, isNull, isCode, untag}
 use Rattle.model.specs.Headers.{tuple}
-use Rattle.model.specs.Objects.{index, isTraced}
+use Rattle.model.specs.Objects.{index, fieldCount, isTraced}
 use Rattle.writer.specs.Measured.{numberOf}
 use Rattle.model.specs.Texts.{Form, asInteger, asTuple, textless}
 
@@ -23,7 +23,7 @@ pub record Used (H : List ℕ) (first free : ℕ) : Type 0 where
 unfoldable pub namedIn : ℕ → ℕ → List ℕ → ℕ → Bool
 namedIn first free H w =
     let i = index tuple w in
-    eqb (w % 4) 0 && (leb first i && ltb i free) && tuple .isHeader (at H i) && ltb (tuple .countOf (at H i)) (free - i)
+    eqb (w % 4) 0 && (leb first i && ltb i free) && tuple .isHeader (at H i) && ltb (fieldCount tuple H i) (free - i)
 
 unfoldable pub whyUnnamed : ℕ → Refusal
 whyUnnamed w = cond (isNull w) Why.Value (cond (isCode w) Why.Value Why.Object)
@@ -47,5 +47,5 @@ formIn first free H w =
     let i = index tuple w in
     cond (isOdd w) (asInteger (untag w))
     (cond (namedIn first free H w)
-    (cond (isTraced (tuple .kindOf (at H i))) (asTuple (fieldsAt H i (tuple .countOf (at H i)))) (textless Why.Value))
+    (cond (isTraced (tuple .kindOf (at H i))) (asTuple (fieldsAt H i (fieldCount tuple H i))) (textless Why.Value))
     (textless (whyUnnamed w)))

@@ -5,11 +5,13 @@
 // `REFUSED` up it says why. The root's value has a measurer of its own, so that the other has one caller: the
 // compiler then takes it into the tuple's loop, where an integer costs no call.
 ghost use mathlib.Core.Path.{_≡_};
-ghost use Prim.Native.Nat.{_+_, _≤_, _<_};
+ghost use Prim.Native.Nat.{_+_, _<_};
 ghost use Rattle.model.specs.Texts.{maxDepth, valuePieces};
 ghost use Rattle.writer.specs.Measured.{limit, whyOf, spent, measured};
+ghost use Rattle.model.specs.Headers.{tuple};
+ghost use Rattle.model.specs.Objects.{fieldCount};
 ghost use Rattle.writer.specs.Forms.{Used, namedIn, unnamedNumber, textlessNumber, formIn};
-ghost use Rattle.writer.specs.Tuples.{openingBytes, tupleIn};
+ghost use Rattle.writer.specs.Tuples.{markBytes, objectIn};
 use crate::MAX_DEPTH;
 use crate::numerals::integer_bytes;
 use model::Address;
@@ -104,18 +106,14 @@ fn why_textless(heap: &[u32], first: usize, free: usize, word: u32) -> usize
     VALUE
 }
 
-// What stands before the mark of a tuple's first field: `{1` of a field alone, `(` of none, and of more
-// nothing.
-fn opening_bytes(count: usize) -> usize
-    ensures { λ r. ⌜ r ≡ openingBytes count ⌝ }
+// A mark stands before each field: `{1=` of a field alone, else a parenthesis or a comma.
+fn mark_bytes(count: usize) -> usize
+    ensures { λ r. ⌜ r ≡ markBytes count ⌝ }
 {
-    if count == 0 {
-        return 1;
-    }
     if count == 1 {
-        return 2;
+        return 3;
     }
-    0
+    1
 }
 
 // What a root's word holds.
@@ -131,8 +129,7 @@ pub(crate) fn measure_root(heap: &[u32], first: usize, free: usize, room: usize,
         return why;
     }
     let object = Tuple::index_of(Address(word)).0;
-    let count = Tuple::count_of(heap[object]);
-    measure_tuple(heap, first, free, room, object, count, MAX_DEPTH - 1)
+    measure_tuple(heap, first, free, room, object, MAX_DEPTH - 1)
 }
 
 // What a field's word holds, with so many levels left.
@@ -151,36 +148,35 @@ fn measure(heap: &[u32], first: usize, free: usize, room: usize, word: u32, dept
         return DEEP;
     }
     let object = Tuple::index_of(Address(word)).0;
-    let count = Tuple::count_of(heap[object]);
-    measure_tuple(heap, first, free, room, object, count, depth - 1)
+    measure_tuple(heap, first, free, room, object, depth - 1)
 }
 
-// A tuple of the `count` fields of an object, whose values have so many levels left. Each field comes after a
-// mark, the last byte of what opens the tuple or a comma.
+// The tuple of an object's fields, whose values have so many levels left.
 fn measure_tuple(
     heap: &[u32],
     first: usize,
     free: usize,
     room: usize,
     object: usize,
-    count: usize,
     depth: usize,
 ) -> usize
-    requires { ⌜ (Used (now heap) first free) × ((room < limit) × (object + count < free)) ⌝ }
-    ensures { λ r. ⌜ r ≡ measured room (tupleIn first free (now (heap .entry)) depth object count) ⌝ }
+    requires { ⌜ (Used (now heap) first free)
+        × ((room < limit) × (object + fieldCount tuple (now heap) object < free)) ⌝ }
+    ensures { λ r. ⌜ r ≡ measured room (objectIn first free (now (heap .entry)) depth object) ⌝ }
 {
-    let opening = opening_bytes(count);
-    if room < opening {
-        return TEXT;
+    let count = Tuple::count_of(heap[object]);
+    if count == 0 {
+        return spend(room, 2);
     }
-    let mut left = room - opening;
+    let mark = mark_bytes(count);
+    let mut left = room;
     let mut field = 0;
     while field < count {
-        if left == 0 {
+        if left < mark {
             return TEXT;
         }
         let word = heap[object + 1 + field];
-        let next = measure(heap, first, free, left - 1, word, depth);
+        let next = measure(heap, first, free, left - mark, word, depth);
         if REFUSED <= next {
             return next;
         }

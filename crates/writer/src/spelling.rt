@@ -7,8 +7,10 @@ ghost use Prim.Native.Nat.{_+_, _≤_, _<_};
 ghost use lib.ListN.{length};
 ghost use Rattle.model.specs.Texts.{byte, maxDepth, valuePieces};
 ghost use Rattle.writer.specs.Going.{reached, goes, Arrives};
+ghost use Rattle.model.specs.Headers.{tuple};
+ghost use Rattle.model.specs.Objects.{fieldCount};
 ghost use Rattle.writer.specs.Forms.{Used, formIn};
-ghost use Rattle.writer.specs.Tuples.{opening, firstMark, closerOf, tupleIn};
+ghost use Rattle.writer.specs.Tuples.{noFields, mark, closerOf, objectIn};
 use crate::MAX_DEPTH;
 use crate::numerals::spell_integer;
 use model::Address;
@@ -28,32 +30,33 @@ const EQUALS: u8 = 61;
 
 const ONE_CLOSER: u8 = 125;
 
-// What stands before the mark of a tuple's first field: `{1` of a field alone, `(` of none, and of more
-// nothing. It answers the next place, as the writers below do.
-fn spell_opening(text: &mut [u8], at: usize, count: usize) -> usize
-    requires { ⌜ at + length (opening count) ≤ length (now text) ⌝ }
-    ensures { λ r. ⌜ reached r (now (text .exit)) ≡ goes (map byte (opening count)) at (now (text .entry)) ⌝ }
+// `()`, for which there is room. It answers the next place, as all here do.
+fn spell_none(text: &mut [u8], at: usize) -> usize
+    requires { ⌜ at + 2 ≤ length (now text) ⌝ }
+    ensures { λ r. ⌜ reached r (now (text .exit)) ≡ goes (map byte noFields) at (now (text .entry)) ⌝ }
 {
-    if count == 0 {
-        text[at] = OPENER;
-        return at + 1;
-    }
+    text[at] = OPENER;
+    text[at + 1] = CLOSER;
+    at + 2
+}
+
+// The mark before a field.
+fn spell_mark(text: &mut [u8], at: usize, count: usize, field: usize) -> usize
+    requires { ⌜ at + length (mark count field) ≤ length (now text) ⌝ }
+    ensures { λ r. ⌜ reached r (now (text .exit)) ≡ goes (map byte (mark count field)) at (now (text .entry)) ⌝ }
+{
     if count == 1 {
         text[at] = ONE_OPENER;
         text[at + 1] = ONE;
-        return at + 2;
+        text[at + 2] = EQUALS;
+        return at + 3;
     }
-    at
-}
-
-// The mark of a tuple's first field.
-fn first_mark(count: usize) -> u8
-    ensures { λ r. ⌜ r ≡ firstMark count ⌝ }
-{
-    if count == 1 {
-        return EQUALS;
+    if field == 0 {
+        text[at] = OPENER;
+        return at + 1;
     }
-    OPENER
+    text[at] = COMMA;
+    at + 1
 }
 
 fn closer_of(count: usize) -> u8
@@ -82,8 +85,7 @@ pub(crate) fn spell_root(
         return spell_integer(text, 0, word);
     }
     let object = Tuple::index_of(Address(word)).0;
-    let count = Tuple::count_of(heap[object]);
-    spell_tuple(heap, first, free, text, 0, object, count, MAX_DEPTH - 1)
+    spell_tuple(heap, first, free, text, 0, object, MAX_DEPTH - 1)
 }
 
 // What a field's word holds, with so many levels left.
@@ -105,12 +107,10 @@ fn spell(
         return spell_integer(text, at, word);
     }
     let object = Tuple::index_of(Address(word)).0;
-    let count = Tuple::count_of(heap[object]);
-    spell_tuple(heap, first, free, text, at, object, count, depth - 1)
+    spell_tuple(heap, first, free, text, at, object, depth - 1)
 }
 
-// A tuple of the `count` fields of an object, whose values have so many levels left. Each field comes after a
-// mark, the last byte of what opens the tuple or a comma.
+// The tuple of an object's fields, whose values have so many levels left.
 fn spell_tuple(
     heap: &[u32],
     first: usize,
@@ -118,22 +118,23 @@ fn spell_tuple(
     text: &mut [u8],
     at: usize,
     object: usize,
-    count: usize,
     depth: usize,
 ) -> usize
-    requires { ⌜ (Used (now heap) first free) × ((object + count < free)
-        × Arrives (goes (tupleIn first free (now heap) depth object count) at (now text))) ⌝ }
+    requires { ⌜ (Used (now heap) first free) × ((object + fieldCount tuple (now heap) object < free)
+        × Arrives (goes (objectIn first free (now heap) depth object) at (now text))) ⌝ }
     ensures { λ r. ⌜ reached r (now (text .exit))
-        ≡ goes (tupleIn first free (now (heap .entry)) depth object count) at (now (text .entry)) ⌝ }
+        ≡ goes (objectIn first free (now (heap .entry)) depth object) at (now (text .entry)) ⌝ }
 {
-    let mut place = spell_opening(text, at, count);
-    let mut mark = first_mark(count);
+    let count = Tuple::count_of(heap[object]);
+    if count == 0 {
+        return spell_none(text, at);
+    }
+    let mut place = at;
     let mut field = 0;
     while field < count {
-        text[place] = mark;
+        let from = spell_mark(text, place, count, field);
         let word = heap[object + 1 + field];
-        place = spell(heap, first, free, text, place + 1, word, depth);
-        mark = COMMA;
+        place = spell(heap, first, free, text, from, word, depth);
         field += 1;
     }
     text[place] = closer_of(count);

@@ -1,6 +1,6 @@
 -- `writer::measuring::measure_root` meets its contract: the root's value has all levels left.
 use native.Mathlib.Omega.{arith}
-use mathlib.Core.Path.{refl, ap, _∙_}
+use mathlib.Core.Path.{ap, _∙_}
 use borrow.Author.Tests.{eq-eqb, ne-eqb}
 use denote.Ref.{now}
 use Rattle.model.specs.Texts.{maxDepth}
@@ -11,7 +11,6 @@ use Rattle.writer.proofs.measuring.measure_root.Statement.{statement}
 use Rattle.writer.proofs.measuring.measure_root.Tie as tie
 use Rattle.writer.proofs.measuring.measure_root.Reads as reads
 use Rattle.writer.proofs.measuring.measure_root.Lts as lts
-use Rattle.words.proofs.tuple.Tuple.count_of.Reads as count-of-reads
 use Rattle.words.proofs.tuple.Tuple.index_of.Reads as index-of-reads
 use Rattle.writer.proofs.measuring.measure_tuple.Reads as measure-tuple-reads
 use Rattle.writer.proofs.measuring.spend.Reads as spend-reads
@@ -51,47 +50,26 @@ returns-2 c =
 index-of-requires : tie.Need-index-of-requires
 index-of-requires c κs = search needs
 
-mul-count-of : tie.Need-mul-count-of
-mul-count-of c = search needs
-
-shared-slice-read-count-of : tie.Need-shared-slice-read-count-of
-shared-slice-read-count-of c =
-    let s = start (c .before .before) in
-    let a = s .args in
-    omega (
-      arith,
-      s .pre .0,
-      told-inside (a .first) (a .free) (now (a .heap)) (a .word) _ _ (c .before .index-of .ensures) refl
-          (told (c .before .before)),
-    )
-
-count-of-requires : tie.Need-count-of-requires
-count-of-requires c κs = search needs
-
 sub-measure-tuple : tie.Need-sub-measure-tuple
 sub-measure-tuple c = search needs
 
 measure-tuple-requires : tie.Need-measure-tuple-requires
 measure-tuple-requires c κs =
-    let s = start (c .before .before .before) in
+    let tested = c .before in
+    let s = start tested in
     let a = s .args in (
       s .pre .0,
-      (
-        s .pre .1,
-        told-inside (a .first) (a .free) (now (a .heap)) (a .word) _ _ (c .before .before .index-of .ensures)
-            (c .count-of .ensures .0) (told (c .before .before .before)),
-      ),
+      (s .pre .1, told-inside (a .first) (a .free) (now (a .heap)) (a .word) _ (c .index-of .ensures) (told tested)),
     )
 
 returns-3 : tie.Need-returns-3
 returns-3 c =
-    let tested = c .before .before .before .before in
+    let tested = c .before .before in
     let a = start tested .args in
     c .measure-tuple .ensures
     ∙ ap (measured (a .room))
-    (told-pieces (a .first) (a .free) (now (a .heap)) (a .word) _ _ (c .before .before .before .index-of .ensures)
-    (c .before .count-of .ensures .0) (told tested) maxDepth (ne-eqb _ _ (tested .before .before .if1 .left))
-    (λ z. omega arith))
+    (told-pieces (a .first) (a .free) (now (a .heap)) (a .word) _ (c .before .index-of .ensures) (told tested) maxDepth
+    (ne-eqb _ _ (tested .before .before .if1 .left)) (λ z. omega arith))
 
 pub measure-root-spec : {M : Type 1} → statement M
 measure-root-spec =
@@ -103,9 +81,6 @@ measure-root-spec =
     why-textless-requires
     returns-2
     index-of-requires
-    mul-count-of
-    shared-slice-read-count-of
-    count-of-requires
     sub-measure-tuple
     measure-tuple-requires
     returns-3)

@@ -1,7 +1,7 @@
 -- `writer::measuring::why_textless` meets its contract: it is 0 where the word names a traced object.
 use native.Mathlib.Omega.{arith}
 use Prim.Native.Nat.{ℕ}
-use mathlib.Core.Path.{_≡_, refl, sym, ap, _∙_}
+use mathlib.Core.Path.{_≡_, sym, ap, _∙_}
 use mathlib.Core.Bool.{true}
 use borrow.Author.Tests.{not-true, not-false}
 use Rattle.model.specs.Words.{at}
@@ -58,7 +58,7 @@ shared-slice-read-is-traced c =
     omega (
       arith,
       s .pre,
-      named-inside (a .first) (a .free) (now (a .heap)) (a .word) _ _ (c .before .index-of .ensures) refl
+      named-inside (a .first) (a .free) (now (a .heap)) (a .word) _ (c .before .index-of .ensures)
           (is-named (c .before .before)),
     )
 

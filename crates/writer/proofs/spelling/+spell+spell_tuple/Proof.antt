@@ -9,10 +9,11 @@ use borrow.Author.Needs.{needs}
 use borrow.Author.Tests.{eq-eqb, ne-eqb}
 use lib.ListN.{length, length-set}
 use denote.Ref.{now}
-use Rattle.model.specs.Texts.{Piece}
+use Rattle.model.specs.Texts.{Piece, valuePieces}
+use Rattle.writer.specs.Forms.{formIn}
 use Rattle.writer.specs.Going.{goes, Arrives}
-use Rattle.writer.specs.Tuples.{tupleIn}
-use Rattle.writer.proofs.Fields.{restPieces, opening-room, opening-goes, mark-room, field-arrives, field-goes}
+use Rattle.writer.specs.Tuples.{tupleIn, objectIn}
+use Rattle.writer.proofs.Fields.{restPieces, none-goes, none-room, all-goes, mark-room, field-arrives, field-goes}
 use Rattle.writer.proofs.Fields.{end-room, end-goes}
 use Rattle.writer.proofs.Sorts.{odd-pieces, odd-room, Told, arrives-told, arrives-levels}
 use Rattle.writer.proofs.Sorts.{told-inside, told-pieces}
@@ -29,8 +30,8 @@ use Rattle.words.proofs.tuple.Tuple.count_of.Reads as count-of-reads
 use Rattle.words.proofs.tuple.Tuple.index_of.Reads as index-of-reads
 use Rattle.writer.proofs.numerals.spell_integer.Reads as spell-integer-reads
 use Rattle.writer.proofs.spelling.closer_of.Reads as closer-of-reads
-use Rattle.writer.proofs.spelling.first_mark.Reads as first-mark-reads
-use Rattle.writer.proofs.spelling.spell_opening.Reads as spell-opening-reads
+use Rattle.writer.proofs.spelling.spell_mark.Reads as spell-mark-reads
+use Rattle.writer.proofs.spelling.spell_none.Reads as spell-none-reads
 use Rattle.writer.proofs.spelling.+spell+spell_tuple.{statement}
 use Rattle.writer.proofs.spelling.+spell+spell_tuple.Tie.{close}
 
@@ -38,7 +39,7 @@ abbrev μ-spell : Measures 2 spell-kinds.ps ℕ
 μ-spell κs a = a .1 .1 .1 .1 .1 .1 .0 + a .1 .1 .1 .1 .1 .1 .0
 
 abbrev μ-spell-tuple : Measures 2 spell-tuple-kinds.ps ℕ
-μ-spell-tuple κs a = a .1 .1 .1 .1 .1 .1 .1 .0 + a .1 .1 .1 .1 .1 .1 .1 .0 + 1
+μ-spell-tuple κs a = a .1 .1 .1 .1 .1 .1 .0 + a .1 .1 .1 .1 .1 .1 .0 + 1
 
 abbrev spell-at : ℕ → In 2 spell-kinds.ps
 spell-at t = and 2 spell-kinds.ps (is 2 spell-kinds.ps μ-spell t) spell.Pre
@@ -61,8 +62,6 @@ spell-calls t = (
   spell-integer-reads.Learnt,
   index-of-reads.Asked,
   index-of-reads.Learnt,
-  count-of-reads.Asked,
-  count-of-reads.Learnt,
   spell-tuple-below t,
   spell-tuple.Post,
 )
@@ -105,44 +104,33 @@ spell-returns t c =
 spell-index-of-requires : (t : ℕ) → spell-lts.Need-index-of-requires (spell-calls t) (spell-at t) spell.Post
 spell-index-of-requires t c κs = search needs
 
-spell-mul-count-of : (t : ℕ) → spell-lts.Need-mul-count-of (spell-calls t) (spell-at t) spell.Post
-spell-mul-count-of t c = search needs
-
-spell-shared-slice-read-count-of : (t : ℕ) → spell-lts.Need-shared-slice-read-count-of (spell-calls t) (spell-at t) spell.Post
-spell-shared-slice-read-count-of t c =
-    let s = c .before .before .before .before .before in
-    let a = s .args in
-    omega (
-      arith,
-      s .pre .1 .0,
-      told-inside (a .first) (a .free) (now (a .heap)) (a .word) _ _ (c .before .index-of .ensures) refl
-          (spell-told t (c .before .before)),
-    )
-
-spell-count-of-requires : (t : ℕ) → spell-lts.Need-count-of-requires (spell-calls t) (spell-at t) spell.Post
-spell-count-of-requires t c κs = search needs
-
 spell-sub-spell-tuple : (t : ℕ) → spell-lts.Need-sub-spell-tuple (spell-calls t) (spell-at t) spell.Post
-spell-sub-spell-tuple t c = pos-of-ne-zero (spell-levels t (c .before .before .before .before))
+spell-sub-spell-tuple t c = pos-of-ne-zero (spell-levels t (c .before .before))
+
+-- the tuple's pieces are the word's
+spell-pieces : (t : ℕ) (c : spell-lts.After-index-of (spell-calls t) (spell-at t) spell.Post)
+    → let a = c .before .before .before .before .args in
+    objectIn (a .first) (a .free) (now (a .heap)) (a .depth - 1) (c .index-of .result .0)
+    ≡ valuePieces (formIn (a .first) (a .free) (now (a .heap))) (a .depth) (a .word)
+spell-pieces t c =
+    let even = c .before in
+    let a = even .before .before .before .args in
+    told-pieces (a .first) (a .free) (now (a .heap)) (a .word) _ (c .index-of .ensures) (spell-told t even) (a .depth)
+    (ne-eqb _ _ (even .if1 .left)) (spell-levels t even)
 
 spell-spell-tuple-requires : (t : ℕ) → spell-lts.Need-spell-tuple-requires (spell-calls t) (spell-at t) spell.Post
 spell-spell-tuple-requires t c κs =
-    let s = c .before .before .before .before .before .before .before in
+    let found = c .before in
+    let even = found .before in
+    let s = even .before .before .before in
     let a = s .args in
-    let told = spell-told t (c .before .before .before .before) in
-    let even = ne-eqb _ _ (c .before .before .before .before .if1 .left) in
-    let levels = spell-levels t (c .before .before .before .before) in
-    let some = pos-of-ne-zero levels in (
+    let some = pos-of-ne-zero (spell-levels t even) in (
       omega (arith, s .pre .0),
       (
         s .pre .1 .0,
         (
-          told-inside (a .first) (a .free) (now (a .heap)) (a .word) _ _ (c .before .before .before .index-of .ensures)
-              (c .before .count-of .ensures .0) told,
-          subst (λ (ps : List Piece). Arrives (goes ps (a .at) (now (a .text))))
-              (sym (told-pieces (a .first) (a .free) (now (a .heap)) (a .word) _ _
-              (c .before .before .before .index-of .ensures) (c .before .count-of .ensures .0) told (a .depth) even levels))
-              (s .pre .1 .1),
+          told-inside (a .first) (a .free) (now (a .heap)) (a .word) _ (found .index-of .ensures) (spell-told t even),
+          subst (λ (ps : List Piece). Arrives (goes ps (a .at) (now (a .text)))) (sym (spell-pieces t found)) (s .pre .1 .1),
         ),
       ),
     )
@@ -152,134 +140,160 @@ spell-same-length-2 t c = c .before .before .spell-tuple .kept .1 .1 .1 .0
 
 spell-returns-2 : (t : ℕ) → spell-lts.Need-returns-2 (spell-calls t) (spell-at t) spell.Post
 spell-returns-2 t c =
-    let even = c .before .before .before .before .before .before .before in
-    let a = even .before .before .before .args in
+    let found = c .before .before .before .before in
+    let a = found .before .before .before .before .args in
     c .before .before .spell-tuple .ensures
-    ∙ ap (λ (ps : List Piece). goes ps (a .at) (now (a .text)))
-    (told-pieces (a .first) (a .free) (now (a .heap)) (a .word) _ _
-    (c .before .before .before .before .before .before .index-of .ensures)
-    (c .before .before .before .before .count-of .ensures .0)
-    (spell-told t even) (a .depth) (ne-eqb _ _ (even .if1 .left)) (spell-levels t even))
+    ∙ ap (λ (ps : List Piece). goes ps (a .at) (now (a .text))) (spell-pieces t found)
 
 abbrev spell-tuple-Inv-loop : spell-tuple-lts.InvT-loop
-spell-tuple-Inv-loop heap first free text₀ at object count depth place₀ mark₀ field₀ text place mark field = (field ≤ count) ×
-    (length text ≡ length text₀)
-    × (goes (restPieces first free heap depth object count mark field) place text
-    ≡ goes (restPieces first free heap depth object count mark₀ field₀) place₀ text₀)
+spell-tuple-Inv-loop heap first free text₀ at object depth count place₀ field₀ text place field = (field ≤ count)
+    × (length text ≡ length text₀)
+    × (goes (restPieces first free heap depth object count field) place text
+    ≡ goes (restPieces first free heap depth object count field₀) place₀ text₀)
 
 abbrev spell-tuple-μ-loop : spell-tuple-lts.MeasureT-loop
-spell-tuple-μ-loop heap first free text₀ at object count depth place₀ mark₀ field₀ text place mark field = count - field
+spell-tuple-μ-loop heap first free text₀ at object depth count place₀ field₀ text place field = count - field
 
 -- what spell_tuple calls
 abbrev spell-tuple-calls : ℕ → spell-tuple-lts.Claims
 spell-tuple-calls t = (
-  spell-opening-reads.Asked,
-  spell-opening-reads.Learnt,
-  first-mark-reads.Asked,
-  first-mark-reads.Learnt,
+  count-of-reads.Asked,
+  count-of-reads.Learnt,
+  spell-none-reads.Asked,
+  spell-none-reads.Learnt,
+  spell-mark-reads.Asked,
+  spell-mark-reads.Learnt,
   spell-below t,
   spell.Post,
   closer-of-reads.Asked,
   closer-of-reads.Learnt,
 )
 
-spell-tuple-spell-opening-requires : (t : ℕ) → spell-tuple-lts.Need-spell-opening-requires (spell-tuple-calls t) (spell-tuple-at t) spell-tuple.Post spell-tuple-Inv-loop spell-tuple-μ-loop
-spell-tuple-spell-opening-requires t c κs =
-    let s = c .before .before .before in
-    let a = s .args in
-    opening-room (a .first) (a .free) (now (a .heap)) (a .depth) (a .object) (a .count) (omega (arith, s .pre .1)) (a .at)
-    (now (a .text)) (s .pre .1 .1 .1)
+spell-tuple-mul-count-of : (t : ℕ) → spell-tuple-lts.Need-mul-count-of (spell-tuple-calls t) (spell-tuple-at t) spell-tuple.Post spell-tuple-Inv-loop spell-tuple-μ-loop
+spell-tuple-mul-count-of t c = search needs
 
-spell-tuple-first-mark-requires : (t : ℕ) → spell-tuple-lts.Need-first-mark-requires (spell-tuple-calls t) (spell-tuple-at t) spell-tuple.Post spell-tuple-Inv-loop spell-tuple-μ-loop
-spell-tuple-first-mark-requires t c κs = search needs
+spell-tuple-shared-slice-read-count-of : (t : ℕ) → spell-tuple-lts.Need-shared-slice-read-count-of (spell-tuple-calls t) (spell-tuple-at t) spell-tuple.Post spell-tuple-Inv-loop spell-tuple-μ-loop
+spell-tuple-shared-slice-read-count-of t c = omega (arith, c .before .before .before .pre .1)
+
+spell-tuple-count-of-requires : (t : ℕ) → spell-tuple-lts.Need-count-of-requires (spell-tuple-calls t) (spell-tuple-at t) spell-tuple.Post spell-tuple-Inv-loop spell-tuple-μ-loop
+spell-tuple-count-of-requires t c κs = search needs
+
+-- where the object's fields are counted; they lie in the heap
+abbrev spell-counted : (t : ℕ) → spell-tuple-lts.After-count-of (spell-tuple-calls t) (spell-tuple-at t) spell-tuple.Post spell-tuple-Inv-loop spell-tuple-μ-loop → spell-tuple-lts.Start (spell-tuple-calls t) (spell-tuple-at t) spell-tuple.Post spell-tuple-Inv-loop spell-tuple-μ-loop
+spell-counted t c = c .before .before .before .before
+
+spell-within : (t : ℕ) (c : spell-tuple-lts.After-count-of (spell-tuple-calls t) (spell-tuple-at t) spell-tuple.Post spell-tuple-Inv-loop spell-tuple-μ-loop)
+    → let a = spell-counted t c .args in a .object + c .count-of .result < length (now (a .heap))
+spell-within t c = omega (arith, spell-counted t c .pre .1, c .count-of .ensures .0)
+
+-- the tuple of so many fields is that of the object
+spell-all : (t : ℕ) (c : spell-tuple-lts.After-count-of (spell-tuple-calls t) (spell-tuple-at t) spell-tuple.Post spell-tuple-Inv-loop spell-tuple-μ-loop)
+    → let a = spell-counted t c .args in
+    goes (tupleIn (a .first) (a .free) (now (a .heap)) (a .depth) (a .object) (c .count-of .result)) (a .at) (now (a .text))
+    ≡ goes (objectIn (a .first) (a .free) (now (a .heap)) (a .depth) (a .object)) (a .at) (now (a .text))
+spell-all t c =
+    let a = spell-counted t c .args in
+    ap (λ (n : ℕ). goes (tupleIn (a .first) (a .free) (now (a .heap)) (a .depth) (a .object) n) (a .at) (now (a .text))) (c .count-of .ensures .0)
+
+spell-tuple-spell-none-requires : (t : ℕ) → spell-tuple-lts.Need-spell-none-requires (spell-tuple-calls t) (spell-tuple-at t) spell-tuple.Post spell-tuple-Inv-loop spell-tuple-μ-loop
+spell-tuple-spell-none-requires t c κs =
+    let n = c .before .before in
+    let s = spell-counted t n in
+    let a = s .args in
+    none-room (a .first) (a .free) (now (a .heap)) (a .depth) (a .object) (n .count-of .result) (spell-within t n) (a .at)
+    (now (a .text)) (c .before .if1 .taken) (subst Arrives (sym (spell-all t n)) (s .pre .1 .1 .1))
+
+spell-tuple-same-length : (t : ℕ) → spell-tuple-lts.Need-same-length (spell-tuple-calls t) (spell-tuple-at t) spell-tuple.Post spell-tuple-Inv-loop spell-tuple-μ-loop
+spell-tuple-same-length t c = c .before .before .spell-none .kept .0
+
+spell-tuple-returns : (t : ℕ) → spell-tuple-lts.Need-returns (spell-tuple-calls t) (spell-tuple-at t) spell-tuple.Post spell-tuple-Inv-loop spell-tuple-μ-loop
+spell-tuple-returns t c =
+    let n = c .before .before .before .before .before in
+    let a = spell-counted t n .args in
+    c .before .before .spell-none .ensures
+    ∙ (none-goes (a .first) (a .free) (now (a .heap)) (a .depth) (a .object) (n .count-of .result) (spell-within t n) (a .at)
+    (now (a .text)) (c .before .before .before .before .if1 .taken)
+    ∙ spell-all t n)
 
 spell-tuple-loop-holds : (t : ℕ) → spell-tuple-lts.Need-loop-holds (spell-tuple-calls t) (spell-tuple-at t) spell-tuple.Post spell-tuple-Inv-loop spell-tuple-μ-loop
 spell-tuple-loop-holds t c = (omega arith, refl, refl)
 
--- the object's fields lie in the heap
-spell-within : (t : ℕ) (c : spell-tuple-lts.Start (spell-tuple-calls t) (spell-tuple-at t) spell-tuple.Post spell-tuple-Inv-loop spell-tuple-μ-loop) → c .args .object + c .args .count < length
-    (now (c .args .heap))
-spell-within t c = omega (arith, c .pre .1)
-
 -- at the loop's head: what is left goes where all of it goes, and no piece of it refuses
+abbrev spell-looped : (t : ℕ) → spell-tuple-lts.At-loop (spell-tuple-calls t) (spell-tuple-at t) spell-tuple.Post spell-tuple-Inv-loop spell-tuple-μ-loop → spell-tuple-lts.After-count-of (spell-tuple-calls t) (spell-tuple-at t) spell-tuple.Post spell-tuple-Inv-loop spell-tuple-μ-loop
+spell-looped t c = c .before .before
+
 spell-left : (t : ℕ) (c : spell-tuple-lts.At-loop (spell-tuple-calls t) (spell-tuple-at t) spell-tuple.Post spell-tuple-Inv-loop spell-tuple-μ-loop)
-    → let a = c .before .before .before .before .before .before .before .before .args in
-    goes (restPieces (a .first) (a .free) (now (a .heap)) (a .depth) (a .object) (a .count) (c .loop .mark) (c .loop .field))
-    (c .loop .place) (c .loop .text) ≡ goes (tupleIn (a .first) (a .free) (now (a .heap)) (a .depth) (a .object) (a .count))
-    (a .at) (now (a .text))
+    → let n = spell-looped t c in
+    let a = spell-counted t n .args in
+    goes (restPieces (a .first) (a .free) (now (a .heap)) (a .depth) (a .object) (n .count-of .result) (c .loop .field)) (c .loop .place) (c .loop .text)
+    ≡ goes (objectIn (a .first) (a .free) (now (a .heap)) (a .depth) (a .object)) (a .at) (now (a .text))
 spell-left t c =
-    let s = c .before .before .before .before .before .before .before .before in
-    let a = s .args in
-    let begun = c .before .before .before .before .spell-opening in
+    let n = spell-looped t c in
+    let a = spell-counted t n .args in
     c .loop .inv .2
-    ∙ opening-goes (a .first) (a .free) (now (a .heap)) (a .depth) (a .object) (a .count) (spell-within t s) (a .at)
-    (now (a .text)) (begun .result) (begun .last .0) _ (begun .ensures) (c .before .first-mark .ensures)
+    ∙ (all-goes (a .first) (a .free) (now (a .heap)) (a .depth) (a .object) (n .count-of .result) (spell-within t n) (a .at)
+    (now (a .text)) (c .before .if1 .left)
+    ∙ spell-all t n)
 
 spell-arrives : (t : ℕ) (c : spell-tuple-lts.At-loop (spell-tuple-calls t) (spell-tuple-at t) spell-tuple.Post spell-tuple-Inv-loop spell-tuple-μ-loop)
-    → let a = c .before .before .before .before .before .before .before .before .args in Arrives
-    (goes (restPieces (a .first) (a .free) (now (a .heap)) (a .depth) (a .object) (a .count) (c .loop .mark) (c .loop .field))
-    (c .loop .place) (c .loop .text))
-spell-arrives t c = subst Arrives (sym (spell-left t c))
-    (c .before .before .before .before .before .before .before .before .pre .1 .1 .1)
+    → let n = spell-looped t c in
+    let a = spell-counted t n .args in
+    Arrives (goes (restPieces (a .first) (a .free) (now (a .heap)) (a .depth) (a .object) (n .count-of .result) (c .loop .field)) (c .loop .place) (c .loop .text))
+spell-arrives t c = subst Arrives (sym (spell-left t c)) (spell-counted t (spell-looped t c) .pre .1 .1 .1)
 
--- the bytes are as many as there were
-spell-kept : (t : ℕ) (c : spell-tuple-lts.At-loop (spell-tuple-calls t) (spell-tuple-at t) spell-tuple.Post spell-tuple-Inv-loop spell-tuple-μ-loop) → length (c .loop .text) ≡ length
-    (now (c .before .before .before .before .before .before .before .before .args .text))
-spell-kept t c = c .loop .inv .1 ∙ c .before .before .before .before .spell-opening .kept .0
-
--- there is room for a mark, and for the closer
-spell-room : (t : ℕ) (c : spell-tuple-lts.In-loop (spell-tuple-calls t) (spell-tuple-at t) spell-tuple.Post spell-tuple-Inv-loop spell-tuple-μ-loop) → c .before .loop .place < length
-    (c .before .loop .text)
-spell-room t c =
-    let s = c .before .before .before .before .before .before .before .before .before in
-    let a = s .args in
-    let l = c .before .loop in
-    mark-room (a .first) (a .free) (now (a .heap)) (a .depth) (a .object) (a .count) (spell-within t s) (l .mark) (l .field)
-    (l .place) (l .text) (spell-arrives t (c .before)) (c .loop-test .taken)
-
-spell-end : (t : ℕ) (c : spell-tuple-lts.After-loop (spell-tuple-calls t) (spell-tuple-at t) spell-tuple.Post spell-tuple-Inv-loop spell-tuple-μ-loop) → c .before .loop .place < length
-    (c .before .loop .text)
+-- there is room for the closer
+spell-end : (t : ℕ) (c : spell-tuple-lts.After-loop (spell-tuple-calls t) (spell-tuple-at t) spell-tuple.Post spell-tuple-Inv-loop spell-tuple-μ-loop)
+    → c .before .loop .place < length (c .before .loop .text)
 spell-end t c =
-    let s = c .before .before .before .before .before .before .before .before .before in
-    let a = s .args in
-    let l = c .before .loop in
-    end-room (a .first) (a .free) (now (a .heap)) (a .depth) (a .object) (a .count) (spell-within t s) (l .mark) (l .field)
-    (l .place) (l .text) (spell-arrives t (c .before)) (c .loop-test .left)
+    let head = c .before in
+    let n = spell-looped t head in
+    let a = spell-counted t n .args in
+    let l = head .loop in
+    end-room (a .first) (a .free) (now (a .heap)) (a .depth) (a .object) (n .count-of .result) (spell-within t n) (l .field)
+    (l .place) (l .text) (spell-arrives t head) (c .loop-test .left)
 
-spell-tuple-slice-write-text : (t : ℕ) → spell-tuple-lts.Need-slice-write-text (spell-tuple-calls t) (spell-tuple-at t) spell-tuple.Post spell-tuple-Inv-loop spell-tuple-μ-loop
-spell-tuple-slice-write-text t c = spell-room t c
+spell-tuple-spell-mark-requires : (t : ℕ) → spell-tuple-lts.Need-spell-mark-requires (spell-tuple-calls t) (spell-tuple-at t) spell-tuple.Post spell-tuple-Inv-loop spell-tuple-μ-loop
+spell-tuple-spell-mark-requires t c κs =
+    let head = c .before .before in
+    let n = spell-looped t head in
+    let a = spell-counted t n .args in
+    let l = head .loop in
+    mark-room (a .first) (a .free) (now (a .heap)) (a .depth) (a .object) (n .count-of .result) (spell-within t n) (l .field)
+    (l .place) (l .text) (spell-arrives t head) (c .before .loop-test .taken)
 
 spell-tuple-add-word : (t : ℕ) → spell-tuple-lts.Need-add-word (spell-tuple-calls t) (spell-tuple-at t) spell-tuple.Post spell-tuple-Inv-loop spell-tuple-μ-loop
-spell-tuple-add-word t c = search needs
+spell-tuple-add-word t c =
+    let n = spell-looped t (c .before .before .before .before .before) in omega (arith, spell-within t n, spell-counted t n .good)
 
 spell-tuple-add-word-2 : (t : ℕ) → spell-tuple-lts.Need-add-word-2 (spell-tuple-calls t) (spell-tuple-at t) spell-tuple.Post spell-tuple-Inv-loop spell-tuple-μ-loop
-spell-tuple-add-word-2 t c = search needs
+spell-tuple-add-word-2 t c =
+    let n = spell-looped t (c .before .before .before .before .before) in
+    omega (arith, spell-within t n, spell-counted t n .good, c .before .before .before .before .loop-test .taken)
 
 spell-tuple-mul-word : (t : ℕ) → spell-tuple-lts.Need-mul-word (spell-tuple-calls t) (spell-tuple-at t) spell-tuple.Post spell-tuple-Inv-loop spell-tuple-μ-loop
 spell-tuple-mul-word t c = search needs
 
 spell-tuple-shared-slice-read-word : (t : ℕ) → spell-tuple-lts.Need-shared-slice-read-word (spell-tuple-calls t) (spell-tuple-at t) spell-tuple.Post spell-tuple-Inv-loop spell-tuple-μ-loop
-spell-tuple-shared-slice-read-word t c = search needs
-
-spell-tuple-add-spell : (t : ℕ) → spell-tuple-lts.Need-add-spell (spell-tuple-calls t) (spell-tuple-at t) spell-tuple.Post spell-tuple-Inv-loop spell-tuple-μ-loop
-spell-tuple-add-spell t c = omega (
-  arith,
-  spell-room t (c .before .before),
-  spell-kept t
-      (c .before .before .before),
-  c .before .before .before .before .before .before .before .before .before .before .before .good,
-)
+spell-tuple-shared-slice-read-word t c =
+    let head = c .before .before .before .before .before .before in
+    omega (arith, spell-within t (spell-looped t head), c .before .before .before .before .before .loop-test .taken)
 
 spell-tuple-spell-requires : (t : ℕ) → spell-tuple-lts.Need-spell-requires (spell-tuple-calls t) (spell-tuple-at t) spell-tuple.Post spell-tuple-Inv-loop spell-tuple-μ-loop
 spell-tuple-spell-requires t c κs =
-    let s = c .before .before .before .before .before .before .before .before .before .before .before in
+    let marked = c .before .before .before .before in
+    let inside = c .before .before .before .before .before .before in
+    let head = inside .before in
+    let n = spell-looped t head in
+    let s = spell-counted t n in
     let a = s .args in
-    let l = c .before .before .before .loop in (
+    let l = head .loop in
+    let mark = marked .spell-mark in (
       omega (arith, s .pre .0),
       (
         s .pre .1 .0,
-        field-arrives (a .first) (a .free) (now (a .heap)) (a .depth) (a .object) (a .count) (spell-within t s) (l .mark)
-            (l .field) (l .place) (l .text) (spell-arrives t (c .before .before .before)) (c .before .before .loop-test .taken),
+        field-arrives (a .first) (a .free) (now (a .heap)) (a .depth) (a .object) (n .count-of .result) (spell-within t n)
+            (l .field) (l .place) (l .text) (spell-arrives t head) (inside .loop-test .taken)
+            (mark .result) (mark .last .0) (mark .ensures),
       ),
     )
 
@@ -291,48 +305,46 @@ spell-tuple-loop-less t c = search needs
 
 spell-tuple-loop-again : (t : ℕ) → spell-tuple-lts.Need-loop-again (spell-tuple-calls t) (spell-tuple-at t) spell-tuple.Post spell-tuple-Inv-loop spell-tuple-μ-loop
 spell-tuple-loop-again t c =
-    let s = c .before .before .before .before .before .before .before .before .before .before .before .before .before .before in
-    let a = s .args in
-    let l = c .before .before .before .before .before .before .loop in
+    let marked = c .before .before .before .before .before .before .before in
+    let inside = c .before .before .before .before .before .before .before .before .before in
+    let head = inside .before in
+    let n = spell-looped t head in
+    let a = spell-counted t n .args in
+    let l = head .loop in
+    let mark = marked .spell-mark in
     let gone = c .before .before .spell in (
-      omega (arith, c .before .before .before .before .before .loop-test .taken),
-      gone .kept .1 .1 .1 .0 ∙ (length-set (l .text) (l .place) (l .mark) ∙ l .inv .1),
-      field-goes (a .first) (a .free) (now (a .heap)) (a .depth) (a .object) (a .count) (spell-within t s) (l .mark)
-          (l .field) (l .place) (l .text) (spell-arrives t (c .before .before .before .before .before .before))
-          (c .before .before .before .before .before .loop-test .taken)
-          (gone .result) (gone .last .1 .1 .1 .0) (gone .ensures)
+      omega (arith, inside .loop-test .taken),
+      gone .kept .1 .1 .1 .0 ∙ (mark .kept .0 ∙ l .inv .1),
+      field-goes (a .first) (a .free) (now (a .heap)) (a .depth) (a .object) (n .count-of .result) (spell-within t n)
+          (l .field) (l .place) (l .text) (spell-arrives t head) (inside .loop-test .taken)
+          (mark .result) (mark .last .0) (mark .ensures) (gone .result) (gone .last .1 .1 .1 .0) (gone .ensures)
           ∙ l .inv .2,
     )
 
 spell-tuple-closer-of-requires : (t : ℕ) → spell-tuple-lts.Need-closer-of-requires (spell-tuple-calls t) (spell-tuple-at t) spell-tuple.Post spell-tuple-Inv-loop spell-tuple-μ-loop
 spell-tuple-closer-of-requires t c κs = search needs
 
-spell-tuple-slice-write-text-2 : (t : ℕ) → spell-tuple-lts.Need-slice-write-text-2 (spell-tuple-calls t) (spell-tuple-at t) spell-tuple.Post spell-tuple-Inv-loop spell-tuple-μ-loop
-spell-tuple-slice-write-text-2 t c = spell-end t (c .before)
+spell-tuple-slice-write-text : (t : ℕ) → spell-tuple-lts.Need-slice-write-text (spell-tuple-calls t) (spell-tuple-at t) spell-tuple.Post spell-tuple-Inv-loop spell-tuple-μ-loop
+spell-tuple-slice-write-text t c = spell-end t (c .before)
 
 spell-tuple-add-result : (t : ℕ) → spell-tuple-lts.Need-add-result (spell-tuple-calls t) (spell-tuple-at t) spell-tuple.Post spell-tuple-Inv-loop spell-tuple-μ-loop
-spell-tuple-add-result t c = omega (
-  arith,
-  spell-end t (c .before),
-  spell-kept t
-      (c .before .before),
-  c .before .before .before .before .before .before .before .before .before .before .good,
-)
+spell-tuple-add-result t c =
+    let head = c .before .before in
+    omega (arith, spell-end t (c .before), head .loop .inv .1, spell-counted t (spell-looped t head) .good)
 
-spell-tuple-same-length : (t : ℕ) → spell-tuple-lts.Need-same-length (spell-tuple-calls t) (spell-tuple-at t) spell-tuple.Post spell-tuple-Inv-loop spell-tuple-μ-loop
-spell-tuple-same-length t c =
-    let l = c .before .before .loop in length-set (l .text) (l .place) (c .closer-of .result)
-    ∙ spell-kept t (c .before .before)
+spell-tuple-same-length-2 : (t : ℕ) → spell-tuple-lts.Need-same-length-2 (spell-tuple-calls t) (spell-tuple-at t) spell-tuple.Post spell-tuple-Inv-loop spell-tuple-μ-loop
+spell-tuple-same-length-2 t c =
+    let l = c .before .before .loop in length-set (l .text) (l .place) (c .closer-of .result) ∙ l .inv .1
 
-spell-tuple-returns : (t : ℕ) → spell-tuple-lts.Need-returns (spell-tuple-calls t) (spell-tuple-at t) spell-tuple.Post spell-tuple-Inv-loop spell-tuple-μ-loop
-spell-tuple-returns t c =
-    let s = c .before .before .before .before .before .before .before .before .before .before in
-    let a = s .args in
-    let l = c .before .before .loop in
-    end-goes (a .first) (a .free) (now (a .heap)) (a .depth) (a .object) (a .count) (spell-within t s) (l .mark) (l .field)
-    (l .place) (l .text) (spell-arrives t (c .before .before)) (c .before .loop-test .left)
-    (c .closer-of .result) (c .closer-of .ensures)
-    ∙ spell-left t (c .before .before)
+spell-tuple-returns-2 : (t : ℕ) → spell-tuple-lts.Need-returns-2 (spell-tuple-calls t) (spell-tuple-at t) spell-tuple.Post spell-tuple-Inv-loop spell-tuple-μ-loop
+spell-tuple-returns-2 t c =
+    let head = c .before .before in
+    let n = spell-looped t head in
+    let a = spell-counted t n .args in
+    let l = head .loop in
+    end-goes (a .first) (a .free) (now (a .heap)) (a .depth) (a .object) (n .count-of .result) (spell-within t n) (l .field)
+    (l .place) (l .text) (spell-arrives t head) (c .before .loop-test .left) (c .closer-of .result) (c .closer-of .ensures)
+    ∙ spell-left t head
 
 pub +spell+spell-tuple-spec : {M : Type 1} → statement M
 +spell+spell-tuple-spec = close μ-spell μ-spell-tuple (λ t. spell-lts.spec (spell-calls t) (spell-at t) spell.Post
@@ -340,9 +352,6 @@ pub +spell+spell-tuple-spec : {M : Type 1} → statement M
     (spell-same-length t)
     (spell-returns t)
     (spell-index-of-requires t)
-    (spell-mul-count-of t)
-    (spell-shared-slice-read-count-of t)
-    (spell-count-of-requires t)
     (spell-sub-spell-tuple t)
     (spell-spell-tuple-requires t)
     (spell-same-length-2 t)
@@ -350,21 +359,24 @@ pub +spell+spell-tuple-spec : {M : Type 1} → statement M
     λ t. spell-tuple-lts.spec (spell-tuple-calls t) (spell-tuple-at t) spell-tuple.Post
     spell-tuple-Inv-loop
     spell-tuple-μ-loop
-    (spell-tuple-spell-opening-requires t)
-    (spell-tuple-first-mark-requires t)
+    (spell-tuple-mul-count-of t)
+    (spell-tuple-shared-slice-read-count-of t)
+    (spell-tuple-count-of-requires t)
+    (spell-tuple-spell-none-requires t)
+    (spell-tuple-same-length t)
+    (spell-tuple-returns t)
     (spell-tuple-loop-holds t)
-    (spell-tuple-slice-write-text t)
+    (spell-tuple-spell-mark-requires t)
     (spell-tuple-add-word t)
     (spell-tuple-add-word-2 t)
     (spell-tuple-mul-word t)
     (spell-tuple-shared-slice-read-word t)
-    (spell-tuple-add-spell t)
     (spell-tuple-spell-requires t)
     (spell-tuple-add-field t)
     (spell-tuple-loop-less t)
     (spell-tuple-loop-again t)
     (spell-tuple-closer-of-requires t)
-    (spell-tuple-slice-write-text-2 t)
+    (spell-tuple-slice-write-text t)
     (spell-tuple-add-result t)
-    (spell-tuple-same-length t)
-    (spell-tuple-returns t)
+    (spell-tuple-same-length-2 t)
+    (spell-tuple-returns-2 t)

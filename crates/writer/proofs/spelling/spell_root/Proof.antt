@@ -1,6 +1,6 @@
 -- `writer::spelling::spell_root` meets its contract: the root's value has all levels left.
 use native.Mathlib.Omega.{arith}
-use mathlib.Core.Path.{_≡_, refl, sym, ap, _∙_, subst}
+use mathlib.Core.Path.{_≡_, sym, ap, _∙_, subst}
 use mathlib.Core.List.{List}
 use borrow.Author.Tests.{eq-eqb, ne-eqb}
 use denote.Ref.{now}
@@ -8,14 +8,13 @@ use Prim.Native.Nat.{_-_}
 use Rattle.model.specs.Texts.{Piece, maxDepth, valuePieces}
 use Rattle.writer.specs.Forms.{formIn}
 use Rattle.writer.specs.Going.{goes, Arrives}
-use Rattle.writer.specs.Tuples.{tupleIn}
+use Rattle.writer.specs.Tuples.{objectIn}
 use Rattle.writer.proofs.Sorts.{odd-pieces, odd-room, Told, arrives-told, told-inside, told-pieces}
 use borrow.Author.Needs.{needs}
 use Rattle.writer.proofs.spelling.spell_root.Statement.{statement}
 use Rattle.writer.proofs.spelling.spell_root.Tie as tie
 use Rattle.writer.proofs.spelling.spell_root.Reads as reads
 use Rattle.writer.proofs.spelling.spell_root.Lts as lts
-use Rattle.words.proofs.tuple.Tuple.count_of.Reads as count-of-reads
 use Rattle.words.proofs.tuple.Tuple.index_of.Reads as index-of-reads
 use Rattle.writer.proofs.numerals.spell_integer.Reads as spell-integer-reads
 use Rattle.writer.proofs.spelling.spell_tuple.Reads as spell-tuple-reads
@@ -31,16 +30,14 @@ told c =
     arrives-told (a .first) (a .free) (now (a .heap)) maxDepth (a .word) 0 (now (a .text)) (ne-eqb _ _ (c .if1 .left))
     (s .pre .1)
 
-abbrev even : tie.After-count-of → tie.Else1
-even c = c .before .before .before
-
-pieces : (c : tie.After-count-of) → let a = start (even c) .args in
-    tupleIn (a .first) (a .free) (now (a .heap)) (maxDepth - 1) (c .before .before .index-of .result .0) (c .count-of .result)
+pieces : (c : tie.After-index-of) → let a = start (c .before) .args in
+    objectIn (a .first) (a .free) (now (a .heap)) (maxDepth - 1) (c .index-of .result .0)
     ≡ valuePieces (formIn (a .first) (a .free) (now (a .heap))) maxDepth (a .word)
 pieces c =
-    let a = start (even c) .args in
-    told-pieces (a .first) (a .free) (now (a .heap)) (a .word) _ _ (c .before .before .index-of .ensures)
-    (c .count-of .ensures .0) (told (even c)) maxDepth (ne-eqb _ _ (even c .if1 .left)) (λ z. omega arith)
+    let even = c .before in
+    let a = start even .args in
+    told-pieces (a .first) (a .free) (now (a .heap)) (a .word) _ (c .index-of .ensures) (told even) maxDepth
+    (ne-eqb _ _ (even .if1 .left)) (λ z. omega arith)
 
 spell-integer-requires : tie.Need-spell-integer-requires
 spell-integer-requires c κs =
@@ -62,36 +59,18 @@ returns c =
 index-of-requires : tie.Need-index-of-requires
 index-of-requires c κs = search needs
 
-mul-count-of : tie.Need-mul-count-of
-mul-count-of c = search needs
-
-shared-slice-read-count-of : tie.Need-shared-slice-read-count-of
-shared-slice-read-count-of c =
-    let s = start (c .before .before) in
-    let a = s .args in
-    omega (
-      arith,
-      s .pre .0,
-      told-inside (a .first) (a .free) (now (a .heap)) (a .word) _ _ (c .before .index-of .ensures) refl
-          (told (c .before .before)),
-    )
-
-count-of-requires : tie.Need-count-of-requires
-count-of-requires c κs = search needs
-
 sub-spell-tuple : tie.Need-sub-spell-tuple
 sub-spell-tuple c = search needs
 
 spell-tuple-requires : tie.Need-spell-tuple-requires
 spell-tuple-requires c κs =
-    let counted = c .before in
-    let s = start (even counted) in
+    let found = c .before in
+    let s = start (found .before) in
     let a = s .args in (
       s .pre .0,
       (
-        told-inside (a .first) (a .free) (now (a .heap)) (a .word) _ _ (counted .before .before .index-of .ensures)
-            (counted .count-of .ensures .0) (told (even counted)),
-        subst (λ (ps : List Piece). Arrives (goes ps 0 (now (a .text)))) (sym (pieces counted)) (s .pre .1),
+        told-inside (a .first) (a .free) (now (a .heap)) (a .word) _ (found .index-of .ensures) (told (found .before)),
+        subst (λ (ps : List Piece). Arrives (goes ps 0 (now (a .text)))) (sym (pieces found)) (s .pre .1),
       ),
     )
 
@@ -100,9 +79,9 @@ same-length-2 c = search needs
 
 returns-2 : tie.Need-returns-2
 returns-2 c =
-    let counted = c .before .before .before .before in
-    let a = start (even counted) .args in
-    c .before .before .spell-tuple .ensures ∙ ap (λ (ps : List Piece). goes ps 0 (now (a .text))) (pieces counted)
+    let found = c .before .before .before .before in
+    let a = start (found .before) .args in
+    c .before .before .spell-tuple .ensures ∙ ap (λ (ps : List Piece). goes ps 0 (now (a .text))) (pieces found)
 
 pub spell-root-spec : {M : Type 1} → statement M
 spell-root-spec =
@@ -112,9 +91,6 @@ spell-root-spec =
     same-length
     returns
     index-of-requires
-    mul-count-of
-    shared-slice-read-count-of
-    count-of-requires
     sub-spell-tuple
     spell-tuple-requires
     same-length-2

@@ -1,0 +1,15 @@
+-- `writer::measuring::mark_bytes` meets its contract, by its test.
+use borrow.Author.Tests.{eq-eqb, ne-eqb}
+use Rattle.writer.proofs.measuring.mark_bytes.Statement.{statement}
+use Rattle.writer.proofs.measuring.mark_bytes.Tie as tie
+use Rattle.writer.proofs.measuring.mark_bytes.Reads as reads
+use Rattle.writer.proofs.measuring.mark_bytes.Lts as lts
+
+returns : tie.Need-returns
+returns c = simp (eq-eqb _ _ (c .if1 .taken))
+
+returns-2 : tie.Need-returns-2
+returns-2 c = simp (ne-eqb _ _ (c .if1 .left))
+
+pub mark-bytes-spec : {M : Type 1} → statement M
+mark-bytes-spec = tie.close (tie.spec returns returns-2)
