@@ -29,10 +29,10 @@ judged-refused (tree (leaf u)) k e = absurd (let z : _≡_ {A = ℕ} 0 1 = cc in
 judged-refused (tree (node g)) k e = absurd (let z : _≡_ {A = ℕ} 0 1 = cc in omega arith)
 judged-refused (broken j) k e = ap broken (cc e)
 
-judged-tuple : (p : Parsed) (w n : ℕ) → judgedOf p ≡ Tuple w n → ((g : Forest) × (p ≡ tree (node g)) × (w ≡ treeWords (node g)))
-judged-tuple (tree (leaf u)) w n e = absurd (let z : _≡_ {A = ℕ} 0 1 = cc in omega arith)
-judged-tuple (tree (node g)) w n e = (g, refl, cc e)
-judged-tuple (broken k) w n e = absurd (let z : _≡_ {A = ℕ} 0 1 = cc in omega arith)
+judged-tuple : (p : Parsed) (w : ℕ) → judgedOf p ≡ Tuple w → ((g : Forest) × (p ≡ tree (node g)) × (w ≡ treeWords (node g)))
+judged-tuple (tree (leaf u)) w e = absurd (let z : _≡_ {A = ℕ} 0 1 = cc in omega arith)
+judged-tuple (tree (node g)) w e = (g, refl, cc e)
+judged-tuple (broken k) w e = absurd (let z : _≡_ {A = ℕ} 0 1 = cc in omega arith)
 
 -- an integer that is read fits 32 bits, and so 64
 pub integer-fits : (T : List ℕ) (v : ℤ) → parsed T ≡ tree (leaf v) → SFits w32 v × SFits w64 v
@@ -50,7 +50,7 @@ module _ (T : List ℕ) (j : Judged) (e : j ≡ judgedOf (parsed T)) where
   pub is-refused : (k : Refusal) → j ≡ Refused k → parsed T ≡ broken k
   is-refused k f = judged-refused (parsed T) k (cc (e, f))
 
-  pub is-tuple : (w n : ℕ) → j ≡ Tuple w n → ((g : Forest) × Stands T w g)
-  is-tuple w n f =
-      let p = judged-tuple (parsed T) w n (cc (e, f)) in
+  pub is-tuple : (w : ℕ) → j ≡ Tuple w → ((g : Forest) × Stands T w g)
+  is-tuple w f =
+      let p = judged-tuple (parsed T) w (cc (e, f)) in
       (p .0, record { read = p .1; filled = p .2 })

@@ -116,7 +116,7 @@ pub fn read(heap: &mut [u32], roots: &mut [u32], record: Record, to: usize, text
     let judged = judge(text);
     match judged {
         Judged::Integer(value) => blind::set_integer(heap, roots, record, to, value as i64),
-        Judged::Tuple(words, tuples) => read_tuple(heap, roots, record, to, text, words),
+        Judged::Tuple(words) => read_tuple(heap, roots, record, to, text, words),
         Judged::Refused(why) => say(Answer::Refused(why), record),
     }
 }

@@ -13,10 +13,9 @@ use Rattle.model.specs.Texts.{maxDepth}
 use Rattle.model.specs.Trees.{Tree, node, then, end, treeWords}
 use Rattle.model.specs.Reading.{Open, brace, height, start, braced, numbered, whole, Next, go, bad, begin, broken}
 use Rattle.model.proofs.Tests.{never}
-use Rattle.reader_judging.specs.Judging.{treeTuples}
 use Rattle.reader_judging.specs.Places.{rest, isOpener, braces, wrapped, Stuck, OpensOne, Opened, Closed, whyOf, Room, Whole, Reads}
 use Rattle.reader_judging.proofs.Steps.{step-to}
-use Rattle.reader_judging.proofs.Forests.{one-words, one-tuples}
+use Rattle.reader_judging.proofs.Forests.{one-words}
 use Rattle.reader_judging.proofs.Sorts.{missing, refused}
 
 begin-brace : (o : Open) (b : ℕ) → b ≡ 123 → height o < maxDepth → begin maxDepth o b ≡ go (braced o)
@@ -191,18 +190,9 @@ unfolding wrapped
 wrapped-words zero x = omega arith
 wrapped-words (suc k) x = omega (arith, one-words (wrapped k x), wrapped-words k x)
 
-wrapped-tuples : (k : ℕ) (x : Tree) → treeTuples (wrapped k x) ≡ treeTuples x + k
-unfolding wrapped
-wrapped-tuples zero x = omega arith
-wrapped-tuples (suc k) x = omega (arith, one-tuples (wrapped k x), wrapped-tuples k x)
-
-module _ (d : ℕ) (t : List ℕ) (at w n k : ℕ) (opened : Opened t at d k) where
-  pub inner-room : Room 0 t at w n → Room 0 t (at + 3 * k) w n
-  inner-room room = record {
-    within = opened .within;
-    words = omega (arith, room .words);
-    tuples = omega (arith, room .tuples);
-  }
+module _ (d : ℕ) (t : List ℕ) (at w k : ℕ) (opened : Opened t at d k) where
+  pub inner-room : Room 0 t at w → Room 0 t (at + 3 * k) w
+  inner-room room = record { within = opened .within; words = omega (arith, room .words) }
 
   inside : (o : Open) → height o + (d + 0) ≡ maxDepth → height (braces k o) + (d - k + 0) ≡ maxDepth
   inside o q = omega (arith, opened .most, height-braces k o)
@@ -210,28 +200,27 @@ module _ (d : ℕ) (t : List ℕ) (at w n k : ℕ) (opened : Opened t at d k) wh
   into : (o : Open) → height o + (d + 0) ≡ maxDepth → rest t (go (start o)) at ≡ rest t (go (start (braces k o))) (at + 3 * k)
   into o q = opened .leads o (omega arith)
 
-  module _ (p u v : ℕ) (read : Reads start 0 (d - k) t (at + 3 * k) w n p u v) where
-    pub no-inner : (r w′ n′ : ℕ) → p ≡ 0 → r ≡ 0 → w′ ≡ u → Reads start 0 d t at w n r w′ n′
-    no-inner r w′ n′ e f g = refused start 0 d t at w n r w′ n′ u f g (λ o q. into o q ∙ read .stops e (braces k o) (inside o q))
+  module _ (p u : ℕ) (read : Reads start 0 (d - k) t (at + 3 * k) w p u) where
+    pub no-inner : (r w′ : ℕ) → p ≡ 0 → r ≡ 0 → w′ ≡ u → Reads start 0 d t at w r w′
+    no-inner r w′ e f g = refused start 0 d t at w r w′ u f g (λ o q. into o q ∙ read .stops e (braces k o) (inside o q))
 
     module _ (z : p ≡ 0 → ⊥) where
-      pub sums : Room 0 t at w n → (u + 3 * k ≤ p) × (v + 3 * k ≤ p) × (p ≤ length t) × (0 < p)
+      pub sums : Room 0 t at w → (u + 3 * k ≤ p) × (p ≤ length t) × (0 < p)
       sums room =
           let y = read .comes z in
-          (omega (arith, y .wordsFit, room .words), omega (arith, y .tuplesFit, room .tuples), y .within, omega (arith, y .beyond))
+          (omega (arith, y .wordsFit, room .words), y .within, omega (arith, y .beyond))
 
       module _ (r : ℕ) (closed : Closed t p k r) where
-        pub not-closed : (s w′ n′ : ℕ) → r ≡ 0 → s ≡ 0 → w′ ≡ 10 → Reads start 0 d t at w n s w′ n′
-        not-closed s w′ n′ e f g =
+        pub not-closed : (s w′ : ℕ) → r ≡ 0 → s ≡ 0 → w′ ≡ 10 → Reads start 0 d t at w s w′
+        not-closed s w′ e f g =
             let y = read .comes z in
-            refused start 0 d t at w n s w′ n′ 10 f g
+            refused start 0 d t at w s w′ 10 f g
             (λ o q. into o q ∙ y .leads (braces k o) (inside o q) ∙ closed .stops e (y .stood) o)
 
-        pub a-chain : (w′ n′ : ℕ) → (r ≡ 0 → ⊥) → w′ ≡ u + 2 * k → n′ ≡ v + k → Reads start 0 d t at w n r w′ n′
-        a-chain w′ n′ c f g =
+        pub a-chain : (w′ : ℕ) → (r ≡ 0 → ⊥) → w′ ≡ u + 2 * k → Reads start 0 d t at w r w′
+        a-chain w′ c f =
             let y = read .comes z in
             let ww = wrapped-words k (y .stood) in
-            let wt = wrapped-tuples k (y .stood) in
             let e = closed .is c in
             record {
               stops = λ q. absurd (c q);
@@ -240,9 +229,7 @@ module _ (d : ℕ) (t : List ℕ) (at w n k : ℕ) (opened : Opened t at d k) wh
                 beyond = omega (arith, y .beyond);
                 within = closed .within;
                 words = omega (arith, y .words);
-                tuples = omega (arith, y .tuples);
                 wordsFit = omega (arith, y .wordsFit);
-                tuplesFit = omega (arith, y .tuplesFit);
                 alone = λ q.
                     let none : k ≡ 0 = omega arith in
                     let here : at + 3 * k ≡ at = omega arith in

@@ -6,7 +6,6 @@ use mathlib.Core.Bool.{Bool, true, false}
 use mathlib.Core.List.{List, [], _∷_, _++_}
 use Rattle.model.specs.Trees.{Forest, end, leafThen, nodeThen, Tree, leaf, node, then, count, forestWords, treeWords}
 use Rattle.model.specs.Reading.{forestOf, noneYet}
-use Rattle.reader_judging.specs.Judging.{forestTuples, treeTuples}
 
 count-then : (x : Tree) (f : Forest) → count (then x f) ≡ count f + 1
 unfolding count
@@ -17,11 +16,6 @@ words-then : (x : Tree) (f : Forest) → forestWords (then x f) ≡ treeWords x 
 unfolding forestWords
 words-then (leaf v) f = omega arith
 words-then (node g) f = refl
-
-tuples-then : (x : Tree) (f : Forest) → forestTuples (then x f) ≡ treeTuples x + forestTuples f
-unfolding forestTuples
-tuples-then (leaf v) f = omega arith
-tuples-then (node g) f = refl
 
 -- a value behind them
 pub count-more : (ts : List Tree) (x : Tree) → count (forestOf (ts ++ (x ∷ []))) ≡ count (forestOf ts) + 1
@@ -36,24 +30,14 @@ words-more [] x = omega (arith, words-then x end)
 words-more (y ∷ ts) x =
     omega (arith, words-more ts x, words-then y (forestOf ts), words-then y (forestOf (ts ++ (x ∷ []))))
 
-pub tuples-more : (ts : List Tree) (x : Tree) → forestTuples (forestOf (ts ++ (x ∷ []))) ≡ forestTuples (forestOf ts) + treeTuples x
-unfolding forestTuples
-tuples-more [] x = omega (arith, tuples-then x end)
-tuples-more (y ∷ ts) x =
-    omega (arith, tuples-more ts x, tuples-then y (forestOf ts), tuples-then y (forestOf (ts ++ (x ∷ []))))
-
 -- none, and one alone
-pub none-counts : (count end ≡ 0) × (forestWords end ≡ 0) × (forestTuples end ≡ 0)
-unfolding count forestWords forestTuples
-none-counts = (refl, refl, refl)
+pub none-counts : (count end ≡ 0) × (forestWords end ≡ 0)
+unfolding count forestWords
+none-counts = (refl, refl)
 
 pub one-words : (x : Tree) → treeWords (node (then x end)) ≡ treeWords x + 2
 unfolding count forestWords
 one-words x = omega (arith, count-then x end, words-then x end)
-
-pub one-tuples : (x : Tree) → treeTuples (node (then x end)) ≡ treeTuples x + 1
-unfolding forestTuples
-one-tuples x = omega (arith, tuples-then x end)
 
 -- whether there is one
 pub some-yet : (ts : List Tree) → noneYet ts ≡ false → 1 ≤ count (forestOf ts)

@@ -16,7 +16,6 @@ use Rattle.model.specs.Trees.{Tree, leaf, treeWords}
 use Rattle.model.specs.Reading.{Open, height, Mode, start, opened, Next, go, bad, signed}
 use Rattle.model.specs.Reading.{begin, onward, stopped, Parsed, broken}
 use Rattle.model.proofs.Tests.{decide, or-cases}
-use Rattle.reader_judging.specs.Judging.{treeTuples}
 use Rattle.reader_judging.specs.Places.{rest, isOpener, negative, Numeral, whyOf, Stuck, Whole, Reads}
 use Rattle.reader_judging.proofs.Steps.{step-to, step-bad, at-end}
 
@@ -30,9 +29,9 @@ missing t x at within e f =
     (decide at (length t))
 
 -- a refusal by its number
-pub refused : (m : Open → Mode) (s d : ℕ) (t : List ℕ) (at w n r w′ n′ k : ℕ) → r ≡ 0 → w′ ≡ k
-    → ((o : Open) → height o + (d + s) ≡ maxDepth → rest t (go (m o)) at ≡ broken (whyOf k)) → Reads m s d t at w n r w′ n′
-refused m s d t at w n r w′ n′ k e f g = record {
+pub refused : (m : Open → Mode) (s d : ℕ) (t : List ℕ) (at w r w′ k : ℕ) → r ≡ 0 → w′ ≡ k
+    → ((o : Open) → height o + (d + s) ≡ maxDepth → rest t (go (m o)) at ≡ broken (whyOf k)) → Reads m s d t at w r w′
+refused m s d t at w r w′ k e f g = record {
   stops = λ _ o q. g o q ∙ ap (λ (i : ℕ). broken (whyOf i)) (sym f);
   comes = λ z. absurd (z e);
 }
@@ -55,16 +54,16 @@ opener-brace b k z =
     (λ (p : eqb b 123 ≡ true). eqb-true b 123 p)
     (or-cases (eqb b 40) (eqb b 123) k)
 
-module _ (d : ℕ) (t : List ℕ) (at w n r w′ n′ : ℕ) where
-  pub nothing : at ≡ length t → r ≡ 0 → w′ ≡ 10 → Reads start 0 d t at w n r w′ n′
-  nothing e f g = refused start 0 d t at w n r w′ n′ 10 f g (λ o q. at-end t (go (start o)) at e)
+module _ (d : ℕ) (t : List ℕ) (at w r w′ : ℕ) where
+  pub nothing : at ≡ length t → r ≡ 0 → w′ ≡ 10 → Reads start 0 d t at w r w′
+  nothing e f g = refused start 0 d t at w r w′ 10 f g (λ o q. at-end t (go (start o)) at e)
 
-  pub no-integer : (i m : ℕ) → Numeral t at i m → i ≡ 0 → r ≡ 0 → w′ ≡ 10 → Reads start 0 d t at w n r w′ n′
-  no-integer i m read e f g = refused start 0 d t at w n r w′ n′ 10 f g (λ o q. read .stops e o)
+  pub no-integer : (i m : ℕ) → Numeral t at i m → i ≡ 0 → r ≡ 0 → w′ ≡ 10 → Reads start 0 d t at w r w′
+  no-integer i m read e f g = refused start 0 d t at w r w′ 10 f g (λ o q. read .stops e o)
 
-  pub an-integer : (m : ℕ) → isOpener (getD t at 0) ≡ false → Numeral t at r m → (r ≡ 0 → ⊥) → w′ ≡ w → n′ ≡ n
-      → Reads start 0 d t at w n r w′ n′
-  an-integer m k read z f g =
+  pub an-integer : (m : ℕ) → isOpener (getD t at 0) ≡ false → Numeral t at r m → (r ≡ 0 → ⊥) → w′ ≡ w
+      → Reads start 0 d t at w r w′
+  an-integer m k read z f =
       let q = read .comes z in
       record {
         stops = λ e. absurd (z e);
@@ -73,29 +72,27 @@ module _ (d : ℕ) (t : List ℕ) (at w n r w′ n′ : ℕ) where
           beyond = q .beyond;
           within = q .within;
           words = omega arith;
-          tuples = omega arith;
           wordsFit = omega (arith, q .beyond);
-          tuplesFit = omega (arith, q .beyond);
           alone = λ _. (refl, k);
           leads = λ o _. q .leads o;
         };
       }
 
-  pub too-deep : at < length t → isOpener (getD t at 0) ≡ true → d ≡ 0 → r ≡ 0 → w′ ≡ 11 → Reads start 0 d t at w n r w′ n′
+  pub too-deep : at < length t → isOpener (getD t at 0) ≡ true → d ≡ 0 → r ≡ 0 → w′ ≡ 11 → Reads start 0 d t at w r w′
   too-deep h k e f g =
-      refused start 0 d t at w n r w′ n′ 11 f g
+      refused start 0 d t at w r w′ 11 f g
       (λ o q. step-bad t (go (start o)) Why.Deep at h (begin-deep o (getD t at 0) k (omega arith)))
 
   -- "{" where no tuple of one field begins
   pub stuck : at < length t → isOpener (getD t at 0) ≡ true → (getD t at 0 ≡ 40 → ⊥) → (d ≡ 0 → ⊥) → Stuck t at d
-      → r ≡ 0 → w′ ≡ 10 → Reads start 0 d t at w n r w′ n′
+      → r ≡ 0 → w′ ≡ 10 → Reads start 0 d t at w r w′
   stuck h k z some s f g =
       let more = pos-of-ne-zero some in
-      refused start 0 d t at w n r w′ n′ 10 f g (λ o q. s .stuck more h (opener-brace (getD t at 0) k z) o (omega arith))
+      refused start 0 d t at w r w′ 10 f g (λ o q. s .stuck more h (opener-brace (getD t at 0) k z) o (omega arith))
 
   -- what is opened is a tuple, by its first byte
-  pub a-tuple : at < length t → (d ≡ 0 → ⊥) → getD t at 0 ≡ 40 → Reads opened 1 (d - 1) t (at + 1) w n r w′ n′
-      → Reads start 0 d t at w n r w′ n′
+  pub a-tuple : at < length t → (d ≡ 0 → ⊥) → getD t at 0 ≡ 40 → Reads opened 1 (d - 1) t (at + 1) w r w′
+      → Reads start 0 d t at w r w′
   a-tuple h some b read =
       let more = pos-of-ne-zero some in
       record {
@@ -105,9 +102,7 @@ module _ (d : ℕ) (t : List ℕ) (at w n r w′ n′ : ℕ) where
           beyond = omega (arith, y .beyond);
           within = y .within;
           words = y .words;
-          tuples = y .tuples;
           wordsFit = omega (arith, y .wordsFit);
-          tuplesFit = omega (arith, y .tuplesFit);
           alone = λ e. absurd (omega (arith, y .alone e .0));
           leads = λ o q. step-to t (go (start o)) (go (opened o)) at h (begin-paren o _ b (omega arith)) ∙ y .leads o (omega arith);
         };

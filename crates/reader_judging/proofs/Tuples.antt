@@ -13,26 +13,23 @@ use Rattle.model.specs.Texts.{maxDepth}
 use Rattle.model.specs.Trees.{Tree, node, end, count, forestWords, treeWords}
 use Rattle.model.specs.Reading.{Open, paren, height, forestOf, noneYet, start, opened, whole, Next, go, bad, follow, broken}
 use Rattle.model.proofs.Tests.{by-test, decide, same?}
-use Rattle.reader_judging.specs.Judging.{forestTuples, treeTuples}
 use Rattle.reader_judging.specs.Places.{rest, whyOf, Room, Closes, Whole, Reads}
 use Rattle.reader_judging.proofs.Steps.{step-to, at-end}
-use Rattle.reader_judging.proofs.Forests.{count-more, words-more, tuples-more, none-counts, some-yet, not-none-yet}
+use Rattle.reader_judging.proofs.Forests.{count-more, words-more, none-counts, some-yet, not-none-yet}
 use Rattle.reader_judging.proofs.Sorts.{missing, refused}
 
 -- the fields up to a place where one is to begin, behind "(" at `at`, with d levels left
-pub record Fields (d : ℕ) (t : List ℕ) (at w₀ n₀ w n place fields : ℕ) : Type 0 where
+pub record Fields (d : ℕ) (t : List ℕ) (at w₀ w place fields : ℕ) : Type 0 where
   pub soFar : List Tree
   pub beyond : at ≤ place
   pub within : place ≤ length t
   pub counted : fields ≡ count (forestOf soFar)
   pub words : w ≡ w₀ + forestWords (forestOf soFar)
-  pub tuples : n ≡ n₀ + forestTuples (forestOf soFar)
   pub wordsFit : w + fields + at ≤ w₀ + place
-  pub tuplesFit : n + at ≤ n₀ + place
   pub leads : (o : Open) → height o + (d + 1) ≡ maxDepth → rest t (go (opened o)) at ≡ rest t (go (start (paren soFar o))) place
 
-module _ (d : ℕ) (t : List ℕ) (at w n : ℕ) where
-  pub no-fields : at < length t → getD t at 0 ≡ 41 → Reads opened 1 d t at w n (at + 1) (w + 1) (n + 1)
+module _ (d : ℕ) (t : List ℕ) (at w : ℕ) where
+  pub no-fields : at < length t → getD t at 0 ≡ 41 → Reads opened 1 d t at w (at + 1) (w + 1)
   no-fields h e = record {
     stops = λ z. absurd (omega arith);
     comes = λ _. record {
@@ -40,25 +37,21 @@ module _ (d : ℕ) (t : List ℕ) (at w n : ℕ) where
       beyond = omega arith;
       within = omega arith;
       words = omega (arith, none-counts);
-      tuples = omega (arith, none-counts);
       wordsFit = omega arith;
-      tuplesFit = omega arith;
       alone = λ z. absurd (omega (arith, none-counts));
       leads = λ o q. step-to t (go (opened o)) (go (whole (node end) o)) at h (rw e);
     };
   }
 
   -- no closer: a field is to begin
-  pub first-field : at ≤ length t → (at < length t → getD t at 0 ≡ 41 → ⊥) → Fields d t at w n w n at 0
+  pub first-field : at ≤ length t → (at < length t → getD t at 0 ≡ 41 → ⊥) → Fields d t at w w at 0
   first-field within z = record {
     soFar = [];
     beyond = omega arith;
     within = within;
     counted = sym (none-counts .0);
     words = omega (arith, none-counts);
-    tuples = omega (arith, none-counts);
     wordsFit = omega arith;
-    tuplesFit = omega arith;
     leads = λ o q.
         ⊎-elim
         (λ (h : at < length t).
@@ -86,18 +79,14 @@ follow-none x ts o b z f =
     (λ (e : b ≡ 41 → ⊥). simp (ne-eqb b 44 z, ne-eqb b 41 e))
     (same? b 41)
 
-module _ (d : ℕ) (t : List ℕ) (at w₀ n₀ w n place fields : ℕ) (so : Fields d t at w₀ n₀ w n place fields) where
-  pub field-room : Room 1 t at w₀ n₀ → Room 0 t place w n
-  field-room room = record {
-    within = so .within;
-    words = omega (arith, so .wordsFit, room .words);
-    tuples = omega (arith, so .tuplesFit, room .tuples);
-  }
+module _ (d : ℕ) (t : List ℕ) (at w₀ w place fields : ℕ) (so : Fields d t at w₀ w place fields) where
+  pub field-room : Room 1 t at w₀ → Room 0 t place w
+  field-room room = record { within = so .within; words = omega (arith, so .wordsFit, room .words) }
 
-  module _ (p u v : ℕ) (read : Reads start 0 d t place w n p u v) where
-    pub bad-field : (r w′ n′ : ℕ) → p ≡ 0 → r ≡ 0 → w′ ≡ u → Reads opened 1 d t at w₀ n₀ r w′ n′
-    bad-field r w′ n′ e f g =
-        refused opened 1 d t at w₀ n₀ r w′ n′ u f g
+  module _ (p u : ℕ) (read : Reads start 0 d t place w p u) where
+    pub bad-field : (r w′ : ℕ) → p ≡ 0 → r ≡ 0 → w′ ≡ u → Reads opened 1 d t at w₀ r w′
+    bad-field r w′ e f g =
+        refused opened 1 d t at w₀ r w′ u f g
         (λ o q. so .leads o q ∙ read .stops e (paren (so .soFar) o) (omega arith))
 
     module _ (z : p ≡ 0 → ⊥) where
@@ -105,13 +94,11 @@ module _ (d : ℕ) (t : List ℕ) (at w₀ n₀ w n place fields : ℕ) (so : Fi
           → rest t (go (opened o)) at ≡ rest t (go (whole (read .comes z .stood) (paren (so .soFar) o))) p
       on o q = so .leads o q ∙ read .comes z .leads (paren (so .soFar) o) (omega arith)
 
-      -- words and tuples have room, and so has what a closer adds
-      pub closer-room : Room 1 t at w₀ n₀ → (u + (fields + 1) ≤ p) × (v ≤ p)
-      closer-room room =
-          let y = read .comes z in
-          (omega (arith, so .wordsFit, y .wordsFit, room .words), omega (arith, so .tuplesFit, y .tuplesFit, room .tuples))
+      -- words have room, and so has what a closer adds
+      pub closer-room : Room 1 t at w₀ → u + (fields + 1) ≤ p
+      closer-room room = let y = read .comes z in omega (arith, so .wordsFit, y .wordsFit, room .words)
 
-      pub more-fields : (q : ℕ) → p < length t → getD t p 0 ≡ 44 → q ≡ p + 1 → Fields d t at w₀ n₀ u v q (fields + 1)
+      pub more-fields : (q : ℕ) → p < length t → getD t p 0 ≡ 44 → q ≡ p + 1 → Fields d t at w₀ u q (fields + 1)
       more-fields i h e f =
           let y = read .comes z in
           record {
@@ -120,14 +107,12 @@ module _ (d : ℕ) (t : List ℕ) (at w₀ n₀ w n place fields : ℕ) (so : Fi
             within = omega arith;
             counted = omega (arith, so .counted, count-more (so .soFar) (y .stood));
             words = omega (arith, so .words, y .words, words-more (so .soFar) (y .stood));
-            tuples = omega (arith, so .tuples, y .tuples, tuples-more (so .soFar) (y .stood));
             wordsFit = omega (arith, so .wordsFit, y .wordsFit);
-            tuplesFit = omega (arith, so .tuplesFit, y .tuplesFit);
             leads = λ o q. on o q ∙ step-to t _ _ p h (follow-comma (y .stood) (so .soFar) o (getD t p 0) e)
                 ∙ ap (λ (j : ℕ). rest t (go (start (paren (so .soFar ++ (y .stood ∷ [])) o))) j) (sym f);
           }
 
-      module _ (c : p < length t → getD t p 0 ≡ 44 → ⊥) (r w′ n′ : ℕ) (closes : Closes t p (fields + 1) u v r w′ n′) where
+      module _ (c : p < length t → getD t p 0 ≡ 44 → ⊥) (r w′ : ℕ) (closes : Closes t p (fields + 1) u r w′) where
         -- one field alone has no parentheses
         alone : r ≡ 0 → p < length t → getD t p 0 ≡ 41 → noneYet (so .soFar) ≡ true
         alone e h b =
@@ -137,7 +122,7 @@ module _ (d : ℕ) (t : List ℕ) (at w₀ n₀ w n place fields : ℕ) (so : Fi
             absurd (closes .stops e .0 (omega (arith, so .counted, some-yet (so .soFar) k)) h b))
             (by-test (noneYet (so .soFar)))
 
-        pub closed : Reads opened 1 d t at w₀ n₀ r w′ n′
+        pub closed : Reads opened 1 d t at w₀ r w′
         closed = record {
           stops = λ e o q.
               let y = read .comes z in
@@ -153,9 +138,7 @@ module _ (d : ℕ) (t : List ℕ) (at w₀ n₀ w n place fields : ℕ) (so : Fi
                 beyond = omega (arith, s .3, so .beyond, y .beyond);
                 within = omega (arith, s .1, s .3);
                 words = omega (arith, s .4, so .counted, so .words, y .words, count-more (so .soFar) (y .stood), words-more (so .soFar) (y .stood));
-                tuples = omega (arith, s .5, so .tuples, y .tuples, tuples-more (so .soFar) (y .stood));
                 wordsFit = omega (arith, s .3, s .4, so .wordsFit, y .wordsFit);
-                tuplesFit = omega (arith, s .3, s .5, so .tuplesFit, y .tuplesFit);
                 alone = λ e. absurd (omega (arith, count-more (so .soFar) (y .stood)));
                 leads = λ o q.
                     on o q

@@ -18,7 +18,7 @@ use Rattle.model.specs.Reading.{outside, start, whole, Next, go, signed, mostDi
 use Rattle.model.proofs.Tests.{same?, never}
 use Rattle.reader_judging.specs.declared.Judged.{Judged}
 use Rattle.reader_judging.specs.declared.Judged.the-variants.{Integer, Tuple, Refused}
-use Rattle.reader_judging.specs.Judging.{treeTuples, judgedOf}
+use Rattle.reader_judging.specs.Judging.{judgedOf}
 use Rattle.reader_judging.specs.Places.{rest, isOpener, negative, Numeral, whyOf, Reads}
 use Rattle.reader_judging.proofs.Steps.{step-bad, at-end}
 
@@ -29,9 +29,8 @@ signed-fits true zero h = record { sfits = omega arith }
 signed-fits true (suc n) h = record { sfits = omega arith }
 
 -- where nothing was counted before
-pub from-none : (t : List ℕ) (w n r w′ n′ : ℕ) → w ≡ 0 → n ≡ 0 → Reads start 0 maxDepth t 0 w n r w′ n′
-    → Reads start 0 maxDepth t 0 0 0 r w′ n′
-from-none t w n r w′ n′ e f read = rw (e, f) at read
+pub from-none : (t : List ℕ) (w r w′ : ℕ) → w ≡ 0 → Reads start 0 maxDepth t 0 w r w′ → Reads start 0 maxDepth t 0 0 r w′
+from-none t w r w′ e read = rw e at read
 
 module _ (t : List ℕ) where
   judged : (x : Parsed) → parsed t ≡ x → judgedOf x ≡ judgedOf (parsed t)
@@ -69,19 +68,15 @@ module _ (t : List ℕ) where
 
   -- ---- a tuple
 
-  words-of : (x : Tree) (w n : ℕ) → (treeWords x ≡ 0 → ⊥) → w ≡ 0 + treeWords x → n ≡ 0 + treeTuples x
-      → Tuple w n ≡ judgedOf (tree x)
-  words-of (leaf v) w n z e f = absurd (z refl)
-  words-of (node g) w n z e f =
-      let d : w ≡ treeWords (node g) = omega arith in
-      let h : n ≡ treeTuples (node g) = omega arith in
-      rw (d, h)
+  words-of : (x : Tree) (w : ℕ) → (treeWords x ≡ 0 → ⊥) → w ≡ 0 + treeWords x → Tuple w ≡ judgedOf (tree x)
+  words-of (leaf v) w z e = absurd (z refl)
+  words-of (node g) w z e = let d : w ≡ treeWords (node g) = omega arith in ap Tuple d
 
-  module _ (r w n : ℕ) (read : Reads start 0 maxDepth t 0 0 0 r w n) where
-    pub a-tuple : 0 < length t → isOpener (getD t 0 0) ≡ true → r ≡ length t → Tuple w n ≡ judgedOf (parsed t)
+  module _ (r w : ℕ) (read : Reads start 0 maxDepth t 0 0 r w) where
+    pub a-tuple : 0 < length t → isOpener (getD t 0 0) ≡ true → r ≡ length t → Tuple w ≡ judgedOf (parsed t)
     a-tuple some k e =
         let y = read .comes (λ q. omega arith) in
-        words-of (y .stood) w n (λ q. never k (y .alone q .1)) (y .words) (y .tuples)
+        words-of (y .stood) w (λ q. never k (y .alone q .1)) (y .words)
         ∙ judged (tree (y .stood)) (all (y .stood) r e (y .leads outside refl))
 
     pub more-behind : (r ≡ length t → ⊥) → (r ≡ 0 → ⊥) → Refused Why.Value ≡ judgedOf (parsed t)

@@ -12,7 +12,6 @@ use Rattle.model.specs.Texts.{minus, opener, closer, maxDepth}
 use Rattle.model.specs.Trees.{end, Tree, leaf, node, then, treeWords}
 use Rattle.model.specs.Reading.{Open, brace, height, Mode, start, digits, whole, Next, go, bad, isDigit, signed, mostDigits}
 use Rattle.model.specs.Reading.{onward, stopped, Parsed, broken, parsedFrom}
-use Rattle.reader_judging.specs.Judging.{treeTuples}
 
 -- what the bytes t from a place on come to, by what was read before it
 abbrev pub rest : List ℕ → Next → ℕ → Parsed
@@ -77,37 +76,33 @@ pub record Numeral (t : List ℕ) (at r n : ℕ) : Type 0 where
 abbrev pub whyOf : ℕ → Refusal
 whyOf n = cond (eqb n 11) Why.Deep Why.Value
 
--- before a place, behind s bytes that open a tuple, so many words and tuples may have been counted
-pub record Room (s : ℕ) (t : List ℕ) (at w n : ℕ) : Type 0 where
+-- before a place, behind s bytes that open a tuple, so many words may have been counted
+pub record Room (s : ℕ) (t : List ℕ) (at w : ℕ) : Type 0 where
   pub within : at ≤ length t
   pub words : w + s ≤ at
-  pub tuples : n + s ≤ at
 
 -- a text that is a tuple, of which nothing was counted
-pub record Tupled (t : List ℕ) (first w n : ℕ) : Type 0 where
+pub record Tupled (t : List ℕ) (first w : ℕ) : Type 0 where
   pub some : 0 < length t
   pub begins : first ≡ getD t 0 0
   pub opens : isOpener first ≡ true
   pub words : w ≡ 0
-  pub tuples : n ≡ 0
 
 -- of a closer at a place, behind so many fields
-pub record Closes (t : List ℕ) (at fields w n r w′ n′ : ℕ) : Type 0 where
+pub record Closes (t : List ℕ) (at fields w r w′ : ℕ) : Type 0 where
   pub stops : r ≡ 0 → ((2 ≤ fields) → (at < length t) → (getD t at 0 ≡ closer) → ⊥) × (w′ ≡ 10)
   pub comes : (r ≡ 0 → ⊥) → (2 ≤ fields) × (at < length t) × (getD t at 0 ≡ closer) × (r ≡ at + 1)
-      × (w′ ≡ w + (fields + 1)) × (n′ ≡ n + 1)
+      × (w′ ≡ w + (fields + 1))
 
--- from what was read before, m, with d levels left behind s bytes that open a tuple; words and tuples counted before and after
-module _ (m : Open → Mode) (s d : ℕ) (t : List ℕ) (at w n r w′ n′ : ℕ) where
+-- from what was read before, m, with d levels left behind s bytes that open a tuple; words counted before and after
+module _ (m : Open → Mode) (s d : ℕ) (t : List ℕ) (at w r w′ : ℕ) where
   -- a tree. It takes no more words than it has bytes; an integer, which takes none, has no opener.
   pub record Whole : Type 0 where
     pub stood : Tree
     pub beyond : at < r
     pub within : r ≤ length t
     pub words : w′ ≡ w + treeWords stood
-    pub tuples : n′ ≡ n + treeTuples stood
     pub wordsFit : w′ + at ≤ w + r + s
-    pub tuplesFit : n′ + at ≤ n + r + s
     pub alone : treeWords stood ≡ 0 → (s ≡ 0) × (isOpener (getD t at 0) ≡ false)
     pub leads : (o : Open) → height o + (d + s) ≡ maxDepth → rest t (go (m o)) at ≡ rest t (go (whole stood o)) r
 

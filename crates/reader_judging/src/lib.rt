@@ -15,10 +15,10 @@ use values::DEEP;
 use values::is_opener;
 use values::outermost;
 
-// An integer, a tuple with the words that it takes and the tuples in it, or why the bytes are no text.
+// An integer, a tuple with the words that it takes, or why the bytes are no text.
 pub enum Judged {
     Integer(i32),
-    Tuple(usize, usize),
+    Tuple(usize),
     Refused(Refusal),
 }
 
@@ -53,10 +53,9 @@ pub fn judge(text: &[u8]) -> Judged
         return Judged::Integer(signed_of(first == MINUS, number));
     }
     let mut words: usize = 0;
-    let mut tuples: usize = 0;
-    let end = outermost(text, first, &mut words, &mut tuples);
+    let end = outermost(text, first, &mut words);
     if end == text.len() {
-        return Judged::Tuple(words, tuples);
+        return Judged::Tuple(words);
     }
     if end != 0 {
         return Judged::Refused(Refusal::Value);

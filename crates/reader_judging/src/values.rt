@@ -1,7 +1,6 @@
 // A value reader and a tuple reader that call each other, with one level fewer each time round. They answer the
 // place behind what they read; 0 is a refusal, and then `words` holds why: so small an answer needs no memory.
-// What they count is added to `words` and `tuples`. A tuple takes no more words than it has bytes, so that no sum
-// is too large.
+// What they count is added to `words`. A tuple takes no more than it has bytes, so that no sum is too large.
 ghost use mathlib.Core.Path.{_≡_};
 ghost use mathlib.Core.Bool.{_&&_};
 ghost use Prim.Native.Nat.{_+_, _≤_, _<_};
@@ -59,10 +58,10 @@ fn refuse(words: &mut usize, why: usize) -> usize
 
 // A value, with so many levels left. Tuples of one field may stand in each other many times over: they are gone
 // through by turns, not by calls.
-fn value(text: &[u8], at: usize, depth: usize, words: &mut usize, tuples: &mut usize) -> usize
-    requires { ⌜ Room 0 (now text) at (now words) (now tuples) ⌝ }
-    ensures { λ r. ⌜ Reads start 0 depth (now (text .entry)) at (now (words .entry)) (now (tuples .entry)) r
-        (now (words .exit)) (now (tuples .exit)) ⌝ }
+fn value(text: &[u8], at: usize, depth: usize, words: &mut usize) -> usize
+    requires { ⌜ Room 0 (now text) at (now words) ⌝ }
+    ensures { λ r. ⌜ Reads start 0 depth (now (text .entry)) at (now (words .entry)) r
+        (now (words .exit)) ⌝ }
 {
     if at == text.len() {
         return refuse(words, VALUE);
@@ -77,12 +76,12 @@ fn value(text: &[u8], at: usize, depth: usize, words: &mut usize, tuples: &mut u
         return place;
     }
     if byte != OPENER {
-        return singles(text, at, depth, words, tuples);
+        return singles(text, at, depth, words);
     }
     if depth == 0 {
         return refuse(words, DEEP);
     }
-    tuple(text, at + 1, depth - 1, words, tuples)
+    tuple(text, at + 1, depth - 1, words)
 }
 
 // Whether a tuple of one field begins.
@@ -134,13 +133,13 @@ fn closings(text: &[u8], at: usize, levels: usize) -> usize
 }
 
 // Tuples of one field that stand in each other, with what the innermost holds.
-fn singles(text: &[u8], at: usize, depth: usize, words: &mut usize, tuples: &mut usize) -> usize
-    requires { ⌜ Room 0 (now text) at (now words) (now tuples) ⌝ }
-    ensures { λ r. ⌜ Reads start 0 depth (now (text .entry)) at (now (words .entry)) (now (tuples .entry)) r
-        (now (words .exit)) (now (tuples .exit)) ⌝ }
+fn singles(text: &[u8], at: usize, depth: usize, words: &mut usize) -> usize
+    requires { ⌜ Room 0 (now text) at (now words) ⌝ }
+    ensures { λ r. ⌜ Reads start 0 depth (now (text .entry)) at (now (words .entry)) r
+        (now (words .exit)) ⌝ }
 {
     let levels = openings(text, at, depth);
-    let place = innermost(text, at + 3 * levels, depth - levels, words, tuples);
+    let place = innermost(text, at + 3 * levels, depth - levels, words);
     if place == 0 {
         return 0;
     }
@@ -149,16 +148,15 @@ fn singles(text: &[u8], at: usize, depth: usize, words: &mut usize, tuples: &mut
         return refuse(words, VALUE);
     }
     *words += 2 * levels;
-    *tuples += levels;
     end
 }
 
 // A value that is no tuple of one field. It is `value` but for that: one function that both call would be called
 // for each integer.
-fn innermost(text: &[u8], at: usize, depth: usize, words: &mut usize, tuples: &mut usize) -> usize
-    requires { ⌜ (Room 0 (now text) at (now words) (now tuples)) × (Stuck (now text) at depth) ⌝ }
-    ensures { λ r. ⌜ Reads start 0 depth (now (text .entry)) at (now (words .entry)) (now (tuples .entry)) r
-        (now (words .exit)) (now (tuples .exit)) ⌝ }
+fn innermost(text: &[u8], at: usize, depth: usize, words: &mut usize) -> usize
+    requires { ⌜ (Room 0 (now text) at (now words)) × (Stuck (now text) at depth) ⌝ }
+    ensures { λ r. ⌜ Reads start 0 depth (now (text .entry)) at (now (words .entry)) r
+        (now (words .exit)) ⌝ }
 {
     if at == text.len() {
         return refuse(words, VALUE);
@@ -178,40 +176,38 @@ fn innermost(text: &[u8], at: usize, depth: usize, words: &mut usize, tuples: &m
     if byte != OPENER {
         return refuse(words, VALUE);
     }
-    tuple(text, at + 1, depth - 1, words, tuples)
+    tuple(text, at + 1, depth - 1, words)
 }
 
 // A tuple of no field, or of two or more, from behind "(", whose values have so many levels left.
-fn tuple(text: &[u8], at: usize, depth: usize, words: &mut usize, tuples: &mut usize) -> usize
-    requires { ⌜ Room 1 (now text) at (now words) (now tuples) ⌝ }
-    ensures { λ r. ⌜ Reads opened 1 depth (now (text .entry)) at (now (words .entry)) (now (tuples .entry)) r
-        (now (words .exit)) (now (tuples .exit)) ⌝ }
+fn tuple(text: &[u8], at: usize, depth: usize, words: &mut usize) -> usize
+    requires { ⌜ Room 1 (now text) at (now words) ⌝ }
+    ensures { λ r. ⌜ Reads opened 1 depth (now (text .entry)) at (now (words .entry)) r
+        (now (words .exit)) ⌝ }
 {
     if is_at(text, at, CLOSER) {
         *words += 1;
-        *tuples += 1;
         return at + 1;
     }
     let mut place = at;
     let mut fields: usize = 0;
     loop {
-        let next = value(text, place, depth, words, tuples);
+        let next = value(text, place, depth, words);
         if next == 0 {
             return 0;
         }
         fields += 1;
         if !is_at(text, next, COMMA) {
-            return close(text, next, fields, words, tuples);
+            return close(text, next, fields, words);
         }
         place = next + 1;
     }
 }
 
 // The closer of a tuple of so many fields, which are two or more.
-fn close(text: &[u8], at: usize, fields: usize, words: &mut usize, tuples: &mut usize) -> usize
-    requires { ⌜ ((now words) + fields ≤ at) × ((now tuples) ≤ at) ⌝ }
-    ensures { λ r. ⌜ Closes (now (text .entry)) at fields (now (words .entry)) (now (tuples .entry)) r
-        (now (words .exit)) (now (tuples .exit)) ⌝ }
+fn close(text: &[u8], at: usize, fields: usize, words: &mut usize) -> usize
+    requires { ⌜ (now words) + fields ≤ at ⌝ }
+    ensures { λ r. ⌜ Closes (now (text .entry)) at fields (now (words .entry)) r (now (words .exit)) ⌝ }
 {
     if fields < 2 {
         return refuse(words, VALUE);
@@ -220,17 +216,16 @@ fn close(text: &[u8], at: usize, fields: usize, words: &mut usize, tuples: &mut 
         return refuse(words, VALUE);
     }
     *words += fields + 1;
-    *tuples += 1;
     at + 1
 }
 
 // A text that is a tuple, by its first byte.
-pub fn outermost(text: &[u8], first: u8, words: &mut usize, tuples: &mut usize) -> usize
-    requires { ⌜ Tupled (now text) first (now words) (now tuples) ⌝ }
-    ensures { λ r. ⌜ Reads start 0 64 (now (text .entry)) 0 0 0 r (now (words .exit)) (now (tuples .exit)) ⌝ }
+pub fn outermost(text: &[u8], first: u8, words: &mut usize) -> usize
+    requires { ⌜ Tupled (now text) first (now words) ⌝ }
+    ensures { λ r. ⌜ Reads start 0 64 (now (text .entry)) 0 0 r (now (words .exit)) ⌝ }
 {
     if first != OPENER {
-        return singles(text, 0, MAX_DEPTH, words, tuples);
+        return singles(text, 0, MAX_DEPTH, words);
     }
-    tuple(text, 1, MAX_DEPTH - 1, words, tuples)
+    tuple(text, 1, MAX_DEPTH - 1, words)
 }

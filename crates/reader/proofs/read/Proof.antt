@@ -53,7 +53,7 @@ integer c = is-integer _ _ (c .before .before .judge .ensures) _ (c .judged .giv
 
 tuple-text : (c : tie.After-judged2)
     → ((g : Forest) × Stands (now (start (shaped (rooted (c .before .before))) .args .text)) (c .judged2 .given .0 .0) g)
-tuple-text c = is-tuple _ _ (c .before .before .judge .ensures) _ _ (c .judged2 .given .1)
+tuple-text c = is-tuple _ _ (c .before .before .judge .ensures) _ (c .judged2 .given .1)
 
 bad-shape-requires : tie.Need-bad-shape-requires
 bad-shape-requires c κs = search needs

@@ -52,23 +52,23 @@ returns-3 c = an-integer _ _ _ (c .before .before .integer .ensures) (omega arit
 
 -- src/lib.rt:57:9
 outermost-requires : tie.Need-outermost-requires
-outermost-requires c κs = record { some = omega arith; begins = refl; opens = sym (c .before .before .before .is-opener .ensures) ∙ not-false _ (c .before .before .if2 .left); words = refl; tuples = refl }
+outermost-requires c κs = record { some = omega arith; begins = refl; opens = sym (c .before .before .is-opener .ensures) ∙ not-false _ (c .before .if2 .left); words = refl }
 
 -- src/lib.rt:59:9
 returns-4 : tie.Need-returns-4
-returns-4 c = a-tuple _ _ _ _ (c .before .outermost .ensures) (omega arith) (sym (c .before .before .before .before .before .is-opener .ensures) ∙ not-false _ (c .before .before .before .before .if2 .left)) (omega arith)
+returns-4 c = a-tuple _ _ _ (c .before .outermost .ensures) (omega arith) (sym (c .before .before .before .before .is-opener .ensures) ∙ not-false _ (c .before .before .before .if2 .left)) (omega arith)
 
 -- src/lib.rt:62:9
 returns-5 : tie.Need-returns-5
-returns-5 c = more-behind _ _ _ _ (c .before .before .outermost .ensures) (λ e. omega arith) (c .if5 .taken)
+returns-5 c = more-behind _ _ _ (c .before .before .outermost .ensures) (λ e. omega arith) (c .if5 .taken)
 
 -- src/lib.rt:65:9
 returns-6 : tie.Need-returns-6
-returns-6 c = deep _ _ _ _ (c .before .before .before .outermost .ensures) (c .before .if5 .left) (c .if6 .taken)
+returns-6 c = deep _ _ _ (c .before .before .before .outermost .ensures) (c .before .if5 .left) (c .if6 .taken)
 
 -- src/lib.rt:40:1
 returns-7 : tie.Need-returns-7
-returns-7 c = no-value _ _ _ _ (c .before .before .before .outermost .ensures) (c .before .if5 .left) (c .if6 .left)
+returns-7 c = no-value _ _ _ (c .before .before .before .outermost .ensures) (c .before .if5 .left) (c .if6 .left)
 
 pub judge-spec : {M : Type 1} → statement M
 judge-spec =

@@ -36,42 +36,42 @@ use Rattle.reader_judging.proofs.values.refuse.Reads as refuse-reads
 use Rattle.reader_judging.proofs.values.+innermost+singles+tuple+value.{statement}
 use Rattle.reader_judging.proofs.values.+innermost+singles+tuple+value.Tie.{close}
 
-abbrev μ-innermost : Measures 3 innermost-kinds.ps ℕ
+abbrev μ-innermost : Measures 2 innermost-kinds.ps ℕ
 μ-innermost κs a = 4 * (a .1 .1 .0)
 
-abbrev μ-singles : Measures 3 singles-kinds.ps ℕ
+abbrev μ-singles : Measures 2 singles-kinds.ps ℕ
 μ-singles κs a = 4 * (a .1 .1 .0) + 1
 
-abbrev μ-tuple : Measures 3 tuple-kinds.ps ℕ
+abbrev μ-tuple : Measures 2 tuple-kinds.ps ℕ
 μ-tuple κs a = 4 * (a .1 .1 .0) + 3
 
-abbrev μ-value : Measures 3 value-kinds.ps ℕ
+abbrev μ-value : Measures 2 value-kinds.ps ℕ
 μ-value κs a = 4 * (a .1 .1 .0) + 2
 
-abbrev innermost-at : ℕ → In 3 innermost-kinds.ps
-innermost-at t = and 3 innermost-kinds.ps (is 3 innermost-kinds.ps μ-innermost t) innermost.Pre
+abbrev innermost-at : ℕ → In 2 innermost-kinds.ps
+innermost-at t = and 2 innermost-kinds.ps (is 2 innermost-kinds.ps μ-innermost t) innermost.Pre
 
-abbrev innermost-below : ℕ → In 3 innermost-kinds.ps
+abbrev innermost-below : ℕ → In 2 innermost-kinds.ps
 innermost-below t =
-    and 3 innermost-kinds.ps (falls 3 innermost-kinds.ps _<_ μ-innermost t) innermost.Pre
+    and 2 innermost-kinds.ps (falls 2 innermost-kinds.ps _<_ μ-innermost t) innermost.Pre
 
-abbrev singles-at : ℕ → In 3 singles-kinds.ps
-singles-at t = and 3 singles-kinds.ps (is 3 singles-kinds.ps μ-singles t) singles.Pre
+abbrev singles-at : ℕ → In 2 singles-kinds.ps
+singles-at t = and 2 singles-kinds.ps (is 2 singles-kinds.ps μ-singles t) singles.Pre
 
-abbrev singles-below : ℕ → In 3 singles-kinds.ps
-singles-below t = and 3 singles-kinds.ps (falls 3 singles-kinds.ps _<_ μ-singles t) singles.Pre
+abbrev singles-below : ℕ → In 2 singles-kinds.ps
+singles-below t = and 2 singles-kinds.ps (falls 2 singles-kinds.ps _<_ μ-singles t) singles.Pre
 
-abbrev tuple-at : ℕ → In 3 tuple-kinds.ps
-tuple-at t = and 3 tuple-kinds.ps (is 3 tuple-kinds.ps μ-tuple t) tuple.Pre
+abbrev tuple-at : ℕ → In 2 tuple-kinds.ps
+tuple-at t = and 2 tuple-kinds.ps (is 2 tuple-kinds.ps μ-tuple t) tuple.Pre
 
-abbrev tuple-below : ℕ → In 3 tuple-kinds.ps
-tuple-below t = and 3 tuple-kinds.ps (falls 3 tuple-kinds.ps _<_ μ-tuple t) tuple.Pre
+abbrev tuple-below : ℕ → In 2 tuple-kinds.ps
+tuple-below t = and 2 tuple-kinds.ps (falls 2 tuple-kinds.ps _<_ μ-tuple t) tuple.Pre
 
-abbrev value-at : ℕ → In 3 value-kinds.ps
-value-at t = and 3 value-kinds.ps (is 3 value-kinds.ps μ-value t) value.Pre
+abbrev value-at : ℕ → In 2 value-kinds.ps
+value-at t = and 2 value-kinds.ps (is 2 value-kinds.ps μ-value t) value.Pre
 
-abbrev value-below : ℕ → In 3 value-kinds.ps
-value-below t = and 3 value-kinds.ps (falls 3 value-kinds.ps _<_ μ-value t) value.Pre
+abbrev value-below : ℕ → In 2 value-kinds.ps
+value-below t = and 2 value-kinds.ps (falls 2 value-kinds.ps _<_ μ-value t) value.Pre
 
 -- src/values.rt:164:9
 innermost-refuse-requires : (t : ℕ) → innermost-lts.Need-refuse-requires (
@@ -97,7 +97,7 @@ innermost-returns : (t : ℕ) → innermost-lts.Need-returns (
   tuple-below t,
   tuple.Post,
 ) (innermost-at t) innermost.Post
-innermost-returns t c = nothing (c .before .before .before .before .args .depth) (c .before .before .before .before .args .text .now) (c .before .before .before .before .args .at) (c .before .before .before .before .args .words .now) (c .before .before .before .before .args .tuples .now) _ _ _ (c .before .before .if1 .taken) (c .refuse .ensures .0) (c .refuse .ensures .1)
+innermost-returns t c = nothing (c .before .before .before .before .args .depth) (c .before .before .before .before .args .text .now) (c .before .before .before .before .args .at) (c .before .before .before .before .args .words .now) _ _ (c .before .before .if1 .taken) (c .refuse .ensures .0) (c .refuse .ensures .1)
 
 -- src/values.rt:166:16
 innermost-shared-slice-read-byte : (t : ℕ) → innermost-lts.Need-shared-slice-read-byte (
@@ -162,7 +162,7 @@ innermost-returns-2 : (t : ℕ) → innermost-lts.Need-returns-2 (
   tuple-below t,
   tuple.Post,
 ) (innermost-at t) innermost.Post
-innermost-returns-2 t c = no-integer (c .before .before .before .before .before .before .before .before .before .before .args .depth) (c .before .before .before .before .before .before .before .before .before .before .args .text .now) (c .before .before .before .before .before .before .before .before .before .before .args .at) (c .before .before .before .before .before .before .before .before .before .before .args .words .now) (c .before .before .before .before .before .before .before .before .before .before .args .tuples .now) _ _ _ _ _ (c .before .before .before .integer .ensures) (c .before .before .if3 .taken) (c .refuse2 .ensures .0) (c .refuse2 .ensures .1)
+innermost-returns-2 t c = no-integer (c .before .before .before .before .before .before .before .before .before .before .args .depth) (c .before .before .before .before .before .before .before .before .before .before .args .text .now) (c .before .before .before .before .before .before .before .before .before .before .args .at) (c .before .before .before .before .before .before .before .before .before .before .args .words .now) _ _ _ _ (c .before .before .before .integer .ensures) (c .before .before .if3 .taken) (c .refuse2 .ensures .0) (c .refuse2 .ensures .1)
 
 -- src/values.rt:173:9
 innermost-returns-3 : (t : ℕ) → innermost-lts.Need-returns-3 (
@@ -175,7 +175,7 @@ innermost-returns-3 : (t : ℕ) → innermost-lts.Need-returns-3 (
   tuple-below t,
   tuple.Post,
 ) (innermost-at t) innermost.Post
-innermost-returns-3 t c = an-integer (c .before .before .before .before .before .before .before .before .args .depth) (c .before .before .before .before .before .before .before .before .args .text .now) (c .before .before .before .before .before .before .before .before .args .at) (c .before .before .before .before .before .before .before .before .args .words .now) (c .before .before .before .before .before .before .before .before .args .tuples .now) _ _ _ _ (sym (c .before .before .before .before .is-opener .ensures) ∙ not-true _ (c .before .before .before .if2 .taken)) (c .before .integer .ensures) (c .if3 .left) refl refl
+innermost-returns-3 t c = an-integer (c .before .before .before .before .before .before .before .before .args .depth) (c .before .before .before .before .before .before .before .before .args .text .now) (c .before .before .before .before .before .before .before .before .args .at) (c .before .before .before .before .before .before .before .before .args .words .now) _ _ _ (sym (c .before .before .before .before .is-opener .ensures) ∙ not-true _ (c .before .before .before .if2 .taken)) (c .before .integer .ensures) (c .if3 .left) refl
 
 -- src/values.rt:176:9
 innermost-refuse-requires-3 : (t : ℕ) → innermost-lts.Need-refuse-requires-3 (
@@ -201,7 +201,7 @@ innermost-returns-4 : (t : ℕ) → innermost-lts.Need-returns-4 (
   tuple-below t,
   tuple.Post,
 ) (innermost-at t) innermost.Post
-innermost-returns-4 t c = too-deep (c .before .before .before .before .before .before .before .before .args .depth) (c .before .before .before .before .before .before .before .before .args .text .now) (c .before .before .before .before .before .before .before .before .args .at) (c .before .before .before .before .before .before .before .before .args .words .now) (c .before .before .before .before .before .before .before .before .args .tuples .now) _ _ _ (omega (arith, c .before .before .before .before .before .before .before .before .pre .1 .0 .within)) (sym (c .before .before .before .before .is-opener .ensures) ∙ not-false _ (c .before .before .before .if2 .left)) (c .before .before .if4 .taken)
+innermost-returns-4 t c = too-deep (c .before .before .before .before .before .before .before .before .args .depth) (c .before .before .before .before .before .before .before .before .args .text .now) (c .before .before .before .before .before .before .before .before .args .at) (c .before .before .before .before .before .before .before .before .args .words .now) _ _ (omega (arith, c .before .before .before .before .before .before .before .before .pre .1 .0 .within)) (sym (c .before .before .before .before .is-opener .ensures) ∙ not-false _ (c .before .before .before .if2 .left)) (c .before .before .if4 .taken)
     (c .refuse3 .ensures .0) (c .refuse3 .ensures .1)
 
 -- src/values.rt:179:9
@@ -228,7 +228,7 @@ innermost-returns-5 : (t : ℕ) → innermost-lts.Need-returns-5 (
   tuple-below t,
   tuple.Post,
 ) (innermost-at t) innermost.Post
-innermost-returns-5 t c = stuck (c .before .before .before .before .before .before .before .before .before .args .depth) (c .before .before .before .before .before .before .before .before .before .args .text .now) (c .before .before .before .before .before .before .before .before .before .args .at) (c .before .before .before .before .before .before .before .before .before .args .words .now) (c .before .before .before .before .before .before .before .before .before .args .tuples .now) _ _ _ (omega (arith, c .before .before .before .before .before .before .before .before .before .pre .1 .0 .within)) (sym (c .before .before .before .before .before .is-opener .ensures) ∙ not-false _ (c .before .before .before .before .if2 .left)) (c .before .before .if5 .taken) (c .before .before .before .if4 .left) (c .before .before .before .before .before .before .before .before .before .pre .1 .1)
+innermost-returns-5 t c = stuck (c .before .before .before .before .before .before .before .before .before .args .depth) (c .before .before .before .before .before .before .before .before .before .args .text .now) (c .before .before .before .before .before .before .before .before .before .args .at) (c .before .before .before .before .before .before .before .before .before .args .words .now) _ _ (omega (arith, c .before .before .before .before .before .before .before .before .before .pre .1 .0 .within)) (sym (c .before .before .before .before .before .is-opener .ensures) ∙ not-false _ (c .before .before .before .before .if2 .left)) (c .before .before .if5 .taken) (c .before .before .before .if4 .left) (c .before .before .before .before .before .before .before .before .before .pre .1 .1)
     (c .refuse4 .ensures .0) (c .refuse4 .ensures .1)
 
 -- src/values.rt:181:17
@@ -268,10 +268,10 @@ innermost-tuple-requires : (t : ℕ) → innermost-lts.Need-tuple-requires (
   tuple-below t,
   tuple.Post,
 ) (innermost-at t) innermost.Post
-innermost-tuple-requires t c κs = let p = c .before .before .before .before .before .before .before .before .before .pre .1 .0 in
-    let some = pos-of-ne-zero (c .before .before .before .if4 .left) in (
-      omega (arith, c .before .before .before .before .before .before .before .before .before .pre .0),
-      record { within = omega (arith, p .within); words = omega (arith, p .words); tuples = omega (arith, p .tuples) },
+innermost-tuple-requires t c κs = let p = c .before .before .before .before .before .before .before .before .pre .1 .0 in
+    let some = pos-of-ne-zero (c .before .before .if4 .left) in (
+      omega (arith, c .before .before .before .before .before .before .before .before .pre .0),
+      record { within = omega (arith, p .within); words = omega (arith, p .words) },
     )
 
 -- src/values.rt:158:1
@@ -285,7 +285,7 @@ innermost-returns-6 : (t : ℕ) → innermost-lts.Need-returns-6 (
   tuple-below t,
   tuple.Post,
 ) (innermost-at t) innermost.Post
-innermost-returns-6 t c = a-tuple (c .before .before .before .before .before .before .before .before .before .before .args .depth) (c .before .before .before .before .before .before .before .before .before .before .args .text .now) (c .before .before .before .before .before .before .before .before .before .before .args .at) (c .before .before .before .before .before .before .before .before .before .before .args .words .now) (c .before .before .before .before .before .before .before .before .before .before .args .tuples .now) _ _ _ (omega (arith, c .before .before .before .before .before .before .before .before .before .before .pre .1 .0 .within)) (c .before .before .before .before .if4 .left) (c .before .before .before .if5 .left) (c .tuple .ensures)
+innermost-returns-6 t c = a-tuple (c .before .before .before .before .before .before .before .before .before .args .depth) (c .before .before .before .before .before .before .before .before .before .args .text .now) (c .before .before .before .before .before .before .before .before .before .args .at) (c .before .before .before .before .before .before .before .before .before .args .words .now) _ _ (omega (arith, c .before .before .before .before .before .before .before .before .before .pre .1 .0 .within)) (c .before .before .before .if4 .left) (c .before .before .if5 .left) (c .tuple .ensures)
 
 -- src/values.rt:142:9
 singles-openings-requires : (t : ℕ) → singles-lts.Need-openings-requires (
@@ -351,8 +351,8 @@ singles-innermost-requires : (t : ℕ) → singles-lts.Need-innermost-requires (
   refuse-reads.Learnt,
 ) (singles-at t) singles.Post
 singles-innermost-requires t c κs = (
-  omega (arith, c .before .before .before .before .pre .0, c .before .before .openings .ensures .most),
-  (inner-room (c .before .before .before .before .args .depth) (c .before .before .before .before .args .text .now) (c .before .before .before .before .args .at) (c .before .before .before .before .args .words .now) (c .before .before .before .before .args .tuples .now) _ (c .before .before .openings .ensures) (c .before .before .before .before .pre .1), c .before .before .openings .ensures .stuck),
+  omega (arith, c .before .before .before .pre .0, c .before .openings .ensures .most),
+  (inner-room (c .before .before .before .args .depth) (c .before .before .before .args .text .now) (c .before .before .before .args .at) (c .before .before .before .args .words .now) _ (c .before .openings .ensures) (c .before .before .before .pre .1), c .before .openings .ensures .stuck),
 )
 
 -- src/values.rt:145:9
@@ -366,7 +366,7 @@ singles-returns : (t : ℕ) → singles-lts.Need-returns (
   refuse-reads.Asked,
   refuse-reads.Learnt,
 ) (singles-at t) singles.Post
-singles-returns t c = no-inner (c .before .before .before .before .before .before .args .depth) (c .before .before .before .before .before .before .args .text .now) (c .before .before .before .before .before .before .args .at) (c .before .before .before .before .before .before .args .words .now) (c .before .before .before .before .before .before .args .tuples .now) _ (c .before .before .before .before .openings .ensures) _ _ _ (c .before .innermost .ensures) _ _ _ (c .if1 .taken) refl refl
+singles-returns t c = no-inner (c .before .before .before .before .before .args .depth) (c .before .before .before .before .before .args .text .now) (c .before .before .before .before .before .args .at) (c .before .before .before .before .before .args .words .now) _ (c .before .before .before .openings .ensures) _ _ (c .before .innermost .ensures) _ _ (c .if1 .taken) refl refl
 
 -- src/values.rt:147:9
 singles-closings-requires : (t : ℕ) → singles-lts.Need-closings-requires (
@@ -379,7 +379,7 @@ singles-closings-requires : (t : ℕ) → singles-lts.Need-closings-requires (
   refuse-reads.Asked,
   refuse-reads.Learnt,
 ) (singles-at t) singles.Post
-singles-closings-requires t c κs = let s = sums (c .before .before .before .before .before .before .args .depth) (c .before .before .before .before .before .before .args .text .now) (c .before .before .before .before .before .before .args .at) (c .before .before .before .before .before .before .args .words .now) (c .before .before .before .before .before .before .args .tuples .now) _ (c .before .before .before .before .openings .ensures) _ _ _ (c .before .innermost .ensures) (c .if1 .left) (c .before .before .before .before .before .before .pre .1) in (s .2, s .3)
+singles-closings-requires t c κs = let s = sums (c .before .before .before .before .before .args .depth) (c .before .before .before .before .before .args .text .now) (c .before .before .before .before .before .args .at) (c .before .before .before .before .before .args .words .now) _ (c .before .before .before .openings .ensures) _ _ (c .before .innermost .ensures) (c .if1 .left) (c .before .before .before .before .before .pre .1) in (s .1, s .2)
 
 -- src/values.rt:149:9
 singles-refuse-requires : (t : ℕ) → singles-lts.Need-refuse-requires (
@@ -405,8 +405,8 @@ singles-returns-2 : (t : ℕ) → singles-lts.Need-returns-2 (
   refuse-reads.Asked,
   refuse-reads.Learnt,
 ) (singles-at t) singles.Post
-singles-returns-2 t c = not-closed (c .before .before .before .before .before .before .before .before .before .before .args .depth) (c .before .before .before .before .before .before .before .before .before .before .args .text .now) (c .before .before .before .before .before .before .before .before .before .before .args .at) (c .before .before .before .before .before .before .before .before .before .before .args .words .now) (c .before .before .before .before .before .before .before .before .before .before .args .tuples .now) _ (c .before .before .before .before .before .before .before .before .openings .ensures) _ _ _ (c .before .before .before .before .before .innermost .ensures) (c .before .before .before .before .if1 .left) _
-    (c .before .before .before .closings .ensures) _ _ _ (c .before .before .if2 .taken) (c .refuse .ensures .0) (c .refuse .ensures .1)
+singles-returns-2 t c = not-closed (c .before .before .before .before .before .before .before .before .before .args .depth) (c .before .before .before .before .before .before .before .before .before .args .text .now) (c .before .before .before .before .before .before .before .before .before .args .at) (c .before .before .before .before .before .before .before .before .before .args .words .now) _ (c .before .before .before .before .before .before .before .openings .ensures) _ _ (c .before .before .before .before .before .innermost .ensures) (c .before .before .before .before .if1 .left) _
+    (c .before .before .before .closings .ensures) _ _ (c .before .before .if2 .taken) (c .refuse .ensures .0) (c .refuse .ensures .1)
 
 -- src/values.rt:151:15
 singles-mul-words : (t : ℕ) → singles-lts.Need-mul-words (
@@ -419,7 +419,7 @@ singles-mul-words : (t : ℕ) → singles-lts.Need-mul-words (
   refuse-reads.Asked,
   refuse-reads.Learnt,
 ) (singles-at t) singles.Post
-singles-mul-words t c = omega (arith, c .before .before .before .before .before .before .openings .ensures .within)
+singles-mul-words t c = omega (arith, c .before .before .before .before .before .openings .ensures .within)
 
 -- src/values.rt:151:5
 singles-add-words : (t : ℕ) → singles-lts.Need-add-words (
@@ -432,20 +432,7 @@ singles-add-words : (t : ℕ) → singles-lts.Need-add-words (
   refuse-reads.Asked,
   refuse-reads.Learnt,
 ) (singles-at t) singles.Post
-singles-add-words t c = let s = sums (c .before .before .before .before .before .before .before .before .before .args .depth) (c .before .before .before .before .before .before .before .before .before .args .text .now) (c .before .before .before .before .before .before .before .before .before .args .at) (c .before .before .before .before .before .before .before .before .before .args .words .now) (c .before .before .before .before .before .before .before .before .before .args .tuples .now) _ (c .before .before .before .before .before .before .before .openings .ensures) _ _ _ (c .before .before .before .before .innermost .ensures) (c .before .before .before .if1 .left) (c .before .before .before .before .before .before .before .before .before .pre .1) in omega (arith, s .0, s .2)
-
--- src/values.rt:152:5
-singles-add-tuples : (t : ℕ) → singles-lts.Need-add-tuples (
-  openings-reads.Asked,
-  openings-reads.Learnt,
-  innermost-below t,
-  innermost.Post,
-  closings-reads.Asked,
-  closings-reads.Learnt,
-  refuse-reads.Asked,
-  refuse-reads.Learnt,
-) (singles-at t) singles.Post
-singles-add-tuples t c = let s = sums (c .before .before .before .before .before .before .before .before .before .before .args .depth) (c .before .before .before .before .before .before .before .before .before .before .args .text .now) (c .before .before .before .before .before .before .before .before .before .before .args .at) (c .before .before .before .before .before .before .before .before .before .before .args .words .now) (c .before .before .before .before .before .before .before .before .before .before .args .tuples .now) _ (c .before .before .before .before .before .before .before .before .openings .ensures) _ _ _ (c .before .before .before .before .before .innermost .ensures) (c .before .before .before .before .if1 .left) (c .before .before .before .before .before .before .before .before .before .before .pre .1) in omega (arith, s .1, s .2)
+singles-add-words t c = let s = sums (c .before .before .before .before .before .before .before .before .args .depth) (c .before .before .before .before .before .before .before .before .args .text .now) (c .before .before .before .before .before .before .before .before .args .at) (c .before .before .before .before .before .before .before .before .args .words .now) _ (c .before .before .before .before .before .before .openings .ensures) _ _ (c .before .before .before .before .innermost .ensures) (c .before .before .before .if1 .left) (c .before .before .before .before .before .before .before .before .pre .1) in omega (arith, s .0, s .1)
 
 -- src/values.rt:137:1
 singles-returns-3 : (t : ℕ) → singles-lts.Need-returns-3 (
@@ -458,14 +445,14 @@ singles-returns-3 : (t : ℕ) → singles-lts.Need-returns-3 (
   refuse-reads.Asked,
   refuse-reads.Learnt,
 ) (singles-at t) singles.Post
-singles-returns-3 t c = a-chain (c .before .before .before .before .before .before .before .before .before .before .args .depth) (c .before .before .before .before .before .before .before .before .before .before .args .text .now) (c .before .before .before .before .before .before .before .before .before .before .args .at) (c .before .before .before .before .before .before .before .before .before .before .args .words .now) (c .before .before .before .before .before .before .before .before .before .before .args .tuples .now) _ (c .before .before .before .before .before .before .before .before .openings .ensures) _ _ _ (c .before .before .before .before .before .innermost .ensures) (c .before .before .before .before .if1 .left) _
-    (c .before .before .before .closings .ensures) _ _ (c .before .before .if2 .left) (omega arith) (omega arith)
+singles-returns-3 t c = a-chain (c .before .before .before .before .before .before .before .before .args .depth) (c .before .before .before .before .before .before .before .before .args .text .now) (c .before .before .before .before .before .before .before .before .args .at) (c .before .before .before .before .before .before .before .before .args .words .now) _ (c .before .before .before .before .before .before .openings .ensures) _ _ (c .before .before .before .before .innermost .ensures) (c .before .before .before .if1 .left) _
+    (c .before .before .closings .ensures) _ (c .before .if2 .left) (omega arith)
 
 abbrev tuple-Inv-loop : tuple-lts.InvT-loop
-tuple-Inv-loop text at depth words₀ tuples₀ place₀ fields₀ words tuples place fields = Fields depth text at words₀ tuples₀ words tuples place fields
+tuple-Inv-loop text at depth words₀ place₀ fields₀ words place fields = Fields depth text at words₀ words place fields
 
 abbrev tuple-μ-loop : tuple-lts.MeasureT-loop
-tuple-μ-loop text at depth words₀ tuples₀ place₀ fields₀ words tuples place fields = length text - place
+tuple-μ-loop text at depth words₀ place₀ fields₀ words place fields = length text - place
 
 -- src/values.rt:190:8
 tuple-is-at-requires : (t : ℕ) → tuple-lts.Need-is-at-requires (
@@ -489,17 +476,6 @@ tuple-add-words : (t : ℕ) → tuple-lts.Need-add-words (
 ) (tuple-at t) tuple.Post tuple-Inv-loop tuple-μ-loop
 tuple-add-words t c = omega (arith, c .before .before .before .before .pre .1)
 
--- src/values.rt:192:9
-tuple-add-tuples : (t : ℕ) → tuple-lts.Need-add-tuples (
-  is-at-reads.Asked,
-  is-at-reads.Learnt,
-  value-below t,
-  value.Post,
-  close-reads.Asked,
-  close-reads.Learnt,
-) (tuple-at t) tuple.Post tuple-Inv-loop tuple-μ-loop
-tuple-add-tuples t c = omega (arith, c .before .before .before .before .before .pre .1)
-
 -- src/values.rt:193:16
 tuple-add-result : (t : ℕ) → tuple-lts.Need-add-result (
   is-at-reads.Asked,
@@ -509,7 +485,7 @@ tuple-add-result : (t : ℕ) → tuple-lts.Need-add-result (
   close-reads.Asked,
   close-reads.Learnt,
 ) (tuple-at t) tuple.Post tuple-Inv-loop tuple-μ-loop
-tuple-add-result t c = omega (arith, there (c .before .before .before .before .before .args .text .now) (c .before .before .before .before .before .args .at) 41 _ (c .before .before .before .is-at .ensures) (c .before .before .if1 .taken) .0)
+tuple-add-result t c = omega (arith, there (c .before .before .before .before .args .text .now) (c .before .before .before .before .args .at) 41 _ (c .before .before .is-at .ensures) (c .before .if1 .taken) .0)
 
 -- src/values.rt:193:9
 tuple-returns : (t : ℕ) → tuple-lts.Need-returns (
@@ -520,7 +496,7 @@ tuple-returns : (t : ℕ) → tuple-lts.Need-returns (
   close-reads.Asked,
   close-reads.Learnt,
 ) (tuple-at t) tuple.Post tuple-Inv-loop tuple-μ-loop
-tuple-returns t c = let h = there (c .before .before .before .before .before .args .text .now) (c .before .before .before .before .before .args .at) 41 _ (c .before .before .before .is-at .ensures) (c .before .before .if1 .taken) in no-fields (c .before .before .before .before .before .args .depth) (c .before .before .before .before .before .args .text .now) (c .before .before .before .before .before .args .at) (c .before .before .before .before .before .args .words .now) (c .before .before .before .before .before .args .tuples .now) (h .0) (h .1)
+tuple-returns t c = let h = there (c .before .before .before .before .args .text .now) (c .before .before .before .before .args .at) 41 _ (c .before .before .is-at .ensures) (c .before .if1 .taken) in no-fields (c .before .before .before .before .args .depth) (c .before .before .before .before .args .text .now) (c .before .before .before .before .args .at) (c .before .before .before .before .args .words .now) (h .0) (h .1)
 
 -- src/values.rt:197:5
 tuple-loop-holds : (t : ℕ) → tuple-lts.Need-loop-holds (
@@ -531,7 +507,7 @@ tuple-loop-holds : (t : ℕ) → tuple-lts.Need-loop-holds (
   close-reads.Asked,
   close-reads.Learnt,
 ) (tuple-at t) tuple.Post tuple-Inv-loop tuple-μ-loop
-tuple-loop-holds t c = first-field (c .before .before .before .args .depth) (c .before .before .before .args .text .now) (c .before .before .before .args .at) (c .before .before .before .args .words .now) (c .before .before .before .args .tuples .now) (c .before .before .before .pre .1 .within)
+tuple-loop-holds t c = first-field (c .before .before .before .args .depth) (c .before .before .before .args .text .now) (c .before .before .before .args .at) (c .before .before .before .args .words .now) (c .before .before .before .pre .1 .within)
     (not-there (c .before .before .before .args .text .now) (c .before .before .before .args .at) 41 _ (c .before .is-at .ensures) (c .if1 .left))
 
 -- src/values.rt:198:13
@@ -543,7 +519,7 @@ tuple-value-requires : (t : ℕ) → tuple-lts.Need-value-requires (
   close-reads.Asked,
   close-reads.Learnt,
 ) (tuple-at t) tuple.Post tuple-Inv-loop tuple-μ-loop
-tuple-value-requires t c κs = (omega (arith, c .before .before .before .before .before .before .pre .0), field-room (c .before .before .before .before .before .before .args .depth) (c .before .before .before .before .before .before .args .text .now) (c .before .before .before .before .before .before .args .at) (c .before .before .before .before .before .before .args .words .now) (c .before .before .before .before .before .before .args .tuples .now) _ _ _ _ (c .before .before .loop .inv) (c .before .before .before .before .before .before .pre .1))
+tuple-value-requires t c κs = (omega (arith, c .before .before .before .before .before .pre .0), field-room (c .before .before .before .before .before .args .depth) (c .before .before .before .before .before .args .text .now) (c .before .before .before .before .before .args .at) (c .before .before .before .before .before .args .words .now) _ _ _ (c .before .loop .inv) (c .before .before .before .before .before .pre .1))
 
 -- src/values.rt:200:13
 tuple-returns-2 : (t : ℕ) → tuple-lts.Need-returns-2 (
@@ -554,7 +530,7 @@ tuple-returns-2 : (t : ℕ) → tuple-lts.Need-returns-2 (
   close-reads.Asked,
   close-reads.Learnt,
 ) (tuple-at t) tuple.Post tuple-Inv-loop tuple-μ-loop
-tuple-returns-2 t c = bad-field (c .before .before .before .before .before .before .before .before .args .depth) (c .before .before .before .before .before .before .before .before .args .text .now) (c .before .before .before .before .before .before .before .before .args .at) (c .before .before .before .before .before .before .before .before .args .words .now) (c .before .before .before .before .before .before .before .before .args .tuples .now) _ _ _ _ (c .before .before .before .before .loop .inv) _ _ _ (c .before .value .ensures) _ _ _ (c .if2 .taken) refl refl
+tuple-returns-2 t c = bad-field (c .before .before .before .before .before .before .before .args .depth) (c .before .before .before .before .before .before .before .args .text .now) (c .before .before .before .before .before .before .before .args .at) (c .before .before .before .before .before .before .before .args .words .now) _ _ _ (c .before .before .before .loop .inv) _ _ (c .before .value .ensures) _ _ (c .if2 .taken) refl refl
 
 -- src/values.rt:202:9
 tuple-add-fields : (t : ℕ) → tuple-lts.Need-add-fields (
@@ -565,7 +541,7 @@ tuple-add-fields : (t : ℕ) → tuple-lts.Need-add-fields (
   close-reads.Asked,
   close-reads.Learnt,
 ) (tuple-at t) tuple.Post tuple-Inv-loop tuple-μ-loop
-tuple-add-fields t c = let i = c .before .before .before .before .loop .inv in omega (arith, i .within, i .wordsFit, c .before .before .before .before .before .before .before .before .pre .1 .words)
+tuple-add-fields t c = let i = c .before .before .before .loop .inv in omega (arith, i .within, i .wordsFit, c .before .before .before .before .before .before .before .pre .1 .words)
 
 -- src/values.rt:203:13
 tuple-is-at-requires-2 : (t : ℕ) → tuple-lts.Need-is-at-requires-2 (
@@ -587,7 +563,7 @@ tuple-close-requires : (t : ℕ) → tuple-lts.Need-close-requires (
   close-reads.Asked,
   close-reads.Learnt,
 ) (tuple-at t) tuple.Post tuple-Inv-loop tuple-μ-loop
-tuple-close-requires t c κs = closer-room (c .before .before .before .before .before .before .before .before .before .before .before .before .args .depth) (c .before .before .before .before .before .before .before .before .before .before .before .before .args .text .now) (c .before .before .before .before .before .before .before .before .before .before .before .before .args .at) (c .before .before .before .before .before .before .before .before .before .before .before .before .args .words .now) (c .before .before .before .before .before .before .before .before .before .before .before .before .args .tuples .now) _ _ _ _ (c .before .before .before .before .before .before .before .before .loop .inv) _ _ _ (c .before .before .before .before .before .value .ensures) (c .before .before .before .before .if2 .left) (c .before .before .before .before .before .before .before .before .before .before .before .before .pre .1)
+tuple-close-requires t c κs = closer-room (c .before .before .before .before .before .before .before .before .before .before .args .depth) (c .before .before .before .before .before .before .before .before .before .before .args .text .now) (c .before .before .before .before .before .before .before .before .before .before .args .at) (c .before .before .before .before .before .before .before .before .before .before .args .words .now) _ _ _ (c .before .before .before .before .before .before .loop .inv) _ _ (c .before .before .before .before .value .ensures) (c .before .before .before .if2 .left) (c .before .before .before .before .before .before .before .before .before .before .pre .1)
 
 -- src/values.rt:204:13
 tuple-returns-3 : (t : ℕ) → tuple-lts.Need-returns-3 (
@@ -598,8 +574,8 @@ tuple-returns-3 : (t : ℕ) → tuple-lts.Need-returns-3 (
   close-reads.Asked,
   close-reads.Learnt,
 ) (tuple-at t) tuple.Post tuple-Inv-loop tuple-μ-loop
-tuple-returns-3 t c = closed (c .before .before .before .before .before .before .before .before .before .before .before .before .before .args .depth) (c .before .before .before .before .before .before .before .before .before .before .before .before .before .args .text .now) (c .before .before .before .before .before .before .before .before .before .before .before .before .before .args .at) (c .before .before .before .before .before .before .before .before .before .before .before .before .before .args .words .now) (c .before .before .before .before .before .before .before .before .before .before .before .before .before .args .tuples .now) _ _ _ _ (c .before .before .before .before .before .before .before .before .before .loop .inv) _ _ _ (c .before .before .before .before .before .before .value .ensures) (c .before .before .before .before .before .if2 .left)
-    (not-there (c .before .before .before .before .before .before .before .before .before .before .before .before .before .args .text .now) (c .before .before .before .before .before .before .value .result) 44 _ (c .before .before .before .before .is-at2 .ensures) (not-true _ (c .before .before .before .if3 .taken))) _ _ _ (c .close .ensures)
+tuple-returns-3 t c = closed (c .before .before .before .before .before .before .before .before .before .before .before .args .depth) (c .before .before .before .before .before .before .before .before .before .before .before .args .text .now) (c .before .before .before .before .before .before .before .before .before .before .before .args .at) (c .before .before .before .before .before .before .before .before .before .before .before .args .words .now) _ _ _ (c .before .before .before .before .before .before .before .loop .inv) _ _ (c .before .before .before .before .before .value .ensures) (c .before .before .before .before .if2 .left)
+    (not-there (c .before .before .before .before .before .before .before .before .before .before .before .args .text .now) (c .before .before .before .before .before .value .result) 44 _ (c .before .before .before .is-at2 .ensures) (not-true _ (c .before .before .if3 .taken))) _ _ (c .close .ensures)
 
 -- src/values.rt:206:17
 tuple-add-place : (t : ℕ) → tuple-lts.Need-add-place (
@@ -610,7 +586,7 @@ tuple-add-place : (t : ℕ) → tuple-lts.Need-add-place (
   close-reads.Asked,
   close-reads.Learnt,
 ) (tuple-at t) tuple.Post tuple-Inv-loop tuple-μ-loop
-tuple-add-place t c = omega (arith, there (c .before .before .before .before .before .before .before .before .before .before .args .text .now) (c .before .before .before .value .result) 44 _ (c .before .is-at2 .ensures) (not-false _ (c .if3 .left)) .0)
+tuple-add-place t c = omega (arith, there (c .before .before .before .before .before .before .before .before .before .args .text .now) (c .before .before .before .value .result) 44 _ (c .before .is-at2 .ensures) (not-false _ (c .if3 .left)) .0)
 
 -- src/values.rt:197:5
 tuple-loop-less : (t : ℕ) → tuple-lts.Need-loop-less (
@@ -621,7 +597,7 @@ tuple-loop-less : (t : ℕ) → tuple-lts.Need-loop-less (
   close-reads.Asked,
   close-reads.Learnt,
 ) (tuple-at t) tuple.Post tuple-Inv-loop tuple-μ-loop
-tuple-loop-less t c = omega (arith, there (c .before .before .before .before .before .before .before .before .before .before .args .text .now) (c .before .before .before .value .result) 44 _ (c .before .is-at2 .ensures) (not-false _ (c .if3 .left)) .0, c .before .before .before .value .ensures .comes (c .before .before .if2 .left) .beyond)
+tuple-loop-less t c = omega (arith, there (c .before .before .before .before .before .before .before .before .before .args .text .now) (c .before .before .before .value .result) 44 _ (c .before .is-at2 .ensures) (not-false _ (c .if3 .left)) .0, c .before .before .before .value .ensures .comes (c .before .before .if2 .left) .beyond)
 
 -- src/values.rt:197:5
 tuple-loop-again : (t : ℕ) → tuple-lts.Need-loop-again (
@@ -632,8 +608,8 @@ tuple-loop-again : (t : ℕ) → tuple-lts.Need-loop-again (
   close-reads.Asked,
   close-reads.Learnt,
 ) (tuple-at t) tuple.Post tuple-Inv-loop tuple-μ-loop
-tuple-loop-again t c = let h = there (c .before .before .before .before .before .before .before .before .before .before .args .text .now) (c .before .before .before .value .result) 44 _ (c .before .is-at2 .ensures) (not-false _ (c .if3 .left)) in
-    more-fields (c .before .before .before .before .before .before .before .before .before .before .args .depth) (c .before .before .before .before .before .before .before .before .before .before .args .text .now) (c .before .before .before .before .before .before .before .before .before .before .args .at) (c .before .before .before .before .before .before .before .before .before .before .args .words .now) (c .before .before .before .before .before .before .before .before .before .before .args .tuples .now) _ _ _ _ (c .before .before .before .before .before .before .loop .inv) _ _ _ (c .before .before .before .value .ensures) (c .before .before .if2 .left) _ (h .0) (h .1) (omega arith)
+tuple-loop-again t c = let h = there (c .before .before .before .before .before .before .before .before .before .args .text .now) (c .before .before .before .value .result) 44 _ (c .before .is-at2 .ensures) (not-false _ (c .if3 .left)) in
+    more-fields (c .before .before .before .before .before .before .before .before .before .args .depth) (c .before .before .before .before .before .before .before .before .before .args .text .now) (c .before .before .before .before .before .before .before .before .before .args .at) (c .before .before .before .before .before .before .before .before .before .args .words .now) _ _ _ (c .before .before .before .before .before .loop .inv) _ _ (c .before .before .before .value .ensures) (c .before .before .if2 .left) _ (h .0) (h .1) (omega arith)
 
 -- src/values.rt:68:9
 value-refuse-requires : (t : ℕ) → value-lts.Need-refuse-requires (
@@ -663,7 +639,7 @@ value-returns : (t : ℕ) → value-lts.Need-returns (
   tuple-below t,
   tuple.Post,
 ) (value-at t) value.Post
-value-returns t c = nothing (c .before .before .before .before .args .depth) (c .before .before .before .before .args .text .now) (c .before .before .before .before .args .at) (c .before .before .before .before .args .words .now) (c .before .before .before .before .args .tuples .now) _ _ _ (c .before .before .if1 .taken) (c .refuse .ensures .0) (c .refuse .ensures .1)
+value-returns t c = nothing (c .before .before .before .before .args .depth) (c .before .before .before .before .args .text .now) (c .before .before .before .before .args .at) (c .before .before .before .before .args .words .now) _ _ (c .before .before .if1 .taken) (c .refuse .ensures .0) (c .refuse .ensures .1)
 
 -- src/values.rt:70:16
 value-shared-slice-read-byte : (t : ℕ) → value-lts.Need-shared-slice-read-byte (
@@ -738,7 +714,7 @@ value-returns-2 : (t : ℕ) → value-lts.Need-returns-2 (
   tuple-below t,
   tuple.Post,
 ) (value-at t) value.Post
-value-returns-2 t c = no-integer (c .before .before .before .before .before .before .before .before .before .before .args .depth) (c .before .before .before .before .before .before .before .before .before .before .args .text .now) (c .before .before .before .before .before .before .before .before .before .before .args .at) (c .before .before .before .before .before .before .before .before .before .before .args .words .now) (c .before .before .before .before .before .before .before .before .before .before .args .tuples .now) _ _ _ _ _ (c .before .before .before .integer .ensures) (c .before .before .if3 .taken) (c .refuse2 .ensures .0) (c .refuse2 .ensures .1)
+value-returns-2 t c = no-integer (c .before .before .before .before .before .before .before .before .before .before .args .depth) (c .before .before .before .before .before .before .before .before .before .before .args .text .now) (c .before .before .before .before .before .before .before .before .before .before .args .at) (c .before .before .before .before .before .before .before .before .before .before .args .words .now) _ _ _ _ (c .before .before .before .integer .ensures) (c .before .before .if3 .taken) (c .refuse2 .ensures .0) (c .refuse2 .ensures .1)
 
 -- src/values.rt:77:9
 value-returns-3 : (t : ℕ) → value-lts.Need-returns-3 (
@@ -753,7 +729,7 @@ value-returns-3 : (t : ℕ) → value-lts.Need-returns-3 (
   tuple-below t,
   tuple.Post,
 ) (value-at t) value.Post
-value-returns-3 t c = an-integer (c .before .before .before .before .before .before .before .before .args .depth) (c .before .before .before .before .before .before .before .before .args .text .now) (c .before .before .before .before .before .before .before .before .args .at) (c .before .before .before .before .before .before .before .before .args .words .now) (c .before .before .before .before .before .before .before .before .args .tuples .now) _ _ _ _ (sym (c .before .before .before .before .is-opener .ensures) ∙ not-true _ (c .before .before .before .if2 .taken)) (c .before .integer .ensures) (c .if3 .left) refl refl
+value-returns-3 t c = an-integer (c .before .before .before .before .before .before .before .before .args .depth) (c .before .before .before .before .before .before .before .before .args .text .now) (c .before .before .before .before .before .before .before .before .args .at) (c .before .before .before .before .before .before .before .before .args .words .now) _ _ _ (sym (c .before .before .before .before .is-opener .ensures) ∙ not-true _ (c .before .before .before .if2 .taken)) (c .before .integer .ensures) (c .if3 .left) refl
 
 -- src/values.rt:80:9
 value-singles-requires : (t : ℕ) → value-lts.Need-singles-requires (
@@ -768,7 +744,7 @@ value-singles-requires : (t : ℕ) → value-lts.Need-singles-requires (
   tuple-below t,
   tuple.Post,
 ) (value-at t) value.Post
-value-singles-requires t c κs = (omega (arith, c .before .before .before .before .before .before .before .before .pre .0), c .before .before .before .before .before .before .before .before .pre .1)
+value-singles-requires t c κs = (omega (arith, c .before .before .before .before .before .before .before .pre .0), c .before .before .before .before .before .before .before .pre .1)
 
 -- src/values.rt:80:9
 value-returns-4 : (t : ℕ) → value-lts.Need-returns-4 (
@@ -813,7 +789,7 @@ value-returns-5 : (t : ℕ) → value-lts.Need-returns-5 (
   tuple-below t,
   tuple.Post,
 ) (value-at t) value.Post
-value-returns-5 t c = too-deep (c .before .before .before .before .before .before .before .before .before .args .depth) (c .before .before .before .before .before .before .before .before .before .args .text .now) (c .before .before .before .before .before .before .before .before .before .args .at) (c .before .before .before .before .before .before .before .before .before .args .words .now) (c .before .before .before .before .before .before .before .before .before .args .tuples .now) _ _ _ (omega (arith, c .before .before .before .before .before .before .before .before .before .pre .1 .within)) (sym (c .before .before .before .before .before .is-opener .ensures) ∙ not-false _ (c .before .before .before .before .if2 .left)) (c .before .before .if5 .taken)
+value-returns-5 t c = too-deep (c .before .before .before .before .before .before .before .before .before .args .depth) (c .before .before .before .before .before .before .before .before .before .args .text .now) (c .before .before .before .before .before .before .before .before .before .args .at) (c .before .before .before .before .before .before .before .before .before .args .words .now) _ _ (omega (arith, c .before .before .before .before .before .before .before .before .before .pre .1 .within)) (sym (c .before .before .before .before .before .is-opener .ensures) ∙ not-false _ (c .before .before .before .before .if2 .left)) (c .before .before .if5 .taken)
     (c .refuse3 .ensures .0) (c .refuse3 .ensures .1)
 
 -- src/values.rt:85:17
@@ -859,10 +835,10 @@ value-tuple-requires : (t : ℕ) → value-lts.Need-tuple-requires (
   tuple-below t,
   tuple.Post,
 ) (value-at t) value.Post
-value-tuple-requires t c κs = let p = c .before .before .before .before .before .before .before .before .before .pre .1 in
-    let some = pos-of-ne-zero (c .before .before .if5 .left) in (
-      omega (arith, c .before .before .before .before .before .before .before .before .before .pre .0),
-      record { within = omega (arith, p .within); words = omega (arith, p .words); tuples = omega (arith, p .tuples) },
+value-tuple-requires t c κs = let p = c .before .before .before .before .before .before .before .before .pre .1 in
+    let some = pos-of-ne-zero (c .before .if5 .left) in (
+      omega (arith, c .before .before .before .before .before .before .before .before .pre .0),
+      record { within = omega (arith, p .within); words = omega (arith, p .words) },
     )
 
 -- src/values.rt:62:1
@@ -878,7 +854,7 @@ value-returns-6 : (t : ℕ) → value-lts.Need-returns-6 (
   tuple-below t,
   tuple.Post,
 ) (value-at t) value.Post
-value-returns-6 t c = a-tuple (c .before .before .before .before .before .before .before .before .before .before .args .depth) (c .before .before .before .before .before .before .before .before .before .before .args .text .now) (c .before .before .before .before .before .before .before .before .before .before .args .at) (c .before .before .before .before .before .before .before .before .before .before .args .words .now) (c .before .before .before .before .before .before .before .before .before .before .args .tuples .now) _ _ _ (omega (arith, c .before .before .before .before .before .before .before .before .before .before .pre .1 .within)) (c .before .before .before .if5 .left) (c .before .before .before .before .if4 .left) (c .tuple .ensures)
+value-returns-6 t c = a-tuple (c .before .before .before .before .before .before .before .before .before .args .depth) (c .before .before .before .before .before .before .before .before .before .args .text .now) (c .before .before .before .before .before .before .before .before .before .args .at) (c .before .before .before .before .before .before .before .before .before .args .words .now) _ _ (omega (arith, c .before .before .before .before .before .before .before .before .before .pre .1 .within)) (c .before .before .if5 .left) (c .before .before .before .if4 .left) (c .tuple .ensures)
 
 pub +innermost+singles+tuple+value-spec : {M : Type 1} → statement M
 +innermost+singles+tuple+value-spec =
@@ -933,7 +909,6 @@ pub +innermost+singles+tuple+value-spec : {M : Type 1} → statement M
     (singles-returns-2 t)
     (singles-mul-words t)
     (singles-add-words t)
-    (singles-add-tuples t)
     (singles-returns-3 t))
     (λ t. tuple-lts.spec (
       is-at-reads.Asked,
@@ -949,7 +924,6 @@ pub +innermost+singles+tuple+value-spec : {M : Type 1} → statement M
     tuple-μ-loop
     (tuple-is-at-requires t)
     (tuple-add-words t)
-    (tuple-add-tuples t)
     (tuple-add-result t)
     (tuple-returns t)
     (tuple-loop-holds t)

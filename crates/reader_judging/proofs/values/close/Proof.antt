@@ -42,19 +42,15 @@ add-words c = omega (arith, there (c .before .before .before .before .args .text
 add-words-2 : tie.Need-add-words-2
 add-words-2 c = omega (arith, there (c .before .before .before .before .before .args .text .now) (c .before .before .before .before .before .args .at) 41 _ (c .before .before .is-at .ensures) (not-false _ (c .before .if2 .left)) .0, c .before .before .before .before .before .pre)
 
--- src/values.rt:149:5
-add-tuples : tie.Need-add-tuples
-add-tuples c = omega (arith, there (c .before .before .before .before .before .before .args .text .now) (c .before .before .before .before .before .before .args .at) 41 _ (c .before .before .before .is-at .ensures) (not-false _ (c .before .before .if2 .left)) .0, c .before .before .before .before .before .before .pre)
-
 -- src/values.rt:150:5
 add-result : tie.Need-add-result
-add-result c = omega (arith, there (c .before .before .before .before .before .before .args .text .now) (c .before .before .before .before .before .before .args .at) 41 _ (c .before .before .before .is-at .ensures) (not-false _ (c .before .before .if2 .left)) .0)
+add-result c = omega (arith, there (c .before .before .before .before .before .args .text .now) (c .before .before .before .before .before .args .at) 41 _ (c .before .before .is-at .ensures) (not-false _ (c .before .if2 .left)) .0)
 
 -- src/values.rt:137:1
 returns-3 : tie.Need-returns-3
-returns-3 c = let h = there (c .before .before .before .before .before .before .args .text .now) (c .before .before .before .before .before .before .args .at) 41 _ (c .before .before .before .is-at .ensures) (not-false _ (c .before .before .if2 .left)) in record {
+returns-3 c = let h = there (c .before .before .before .before .before .args .text .now) (c .before .before .before .before .before .args .at) 41 _ (c .before .before .is-at .ensures) (not-false _ (c .before .if2 .left)) in record {
   stops = λ e. absurd (omega arith);
-  comes = λ _. (omega arith, h .0, h .1, omega arith, omega arith, omega arith);
+  comes = λ _. (omega arith, h .0, h .1, omega arith, omega arith);
 }
 
 pub close-spec : {M : Type 1} → statement M
@@ -68,6 +64,5 @@ close-spec =
     returns-2
     add-words
     add-words-2
-    add-tuples
     add-result
     returns-3)

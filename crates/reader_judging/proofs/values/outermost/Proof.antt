@@ -17,7 +17,7 @@ singles-requires c κs = search needs
 
 -- src/values.rt:233:9
 returns : tie.Need-returns
-returns c = from-none _ _ _ _ _ _ (c .before .before .before .before .before .pre .words) (c .before .before .before .before .before .pre .tuples) (c .singles .ensures)
+returns c = from-none _ _ _ _ (c .before .before .before .before .pre .words) (c .singles .ensures)
 
 -- src/values.rt:235:20
 sub-tuple : tie.Need-sub-tuple
@@ -29,10 +29,10 @@ tuple-requires c κs = search needs
 
 -- src/values.rt:228:1
 returns-2 : tie.Need-returns-2
-returns-2 c = let p = c .before .before .before .before .before .pre in
-    from-none _ _ _ _ _ _ (p .words) (p .tuples)
-    (a-tuple 64 (c .before .before .before .before .before .args .text .now) 0 (c .before .before .before .before .before .args .words .now) (c .before .before .before .before .before .args .tuples .now) _ _ _ (p .some) (λ e. omega arith)
-    (sym (p .begins) ∙ c .before .before .before .if1 .left) (c .tuple .ensures))
+returns-2 c = let p = c .before .before .before .before .pre in
+    from-none _ _ _ _ (p .words)
+    (a-tuple 64 (c .before .before .before .before .args .text .now) 0 (c .before .before .before .before .args .words .now) _ _ (p .some) (λ e. omega arith)
+    (sym (p .begins) ∙ c .before .before .if1 .left) (c .tuple .ensures))
 
 pub outermost-spec : {M : Type 1} → statement M
 outermost-spec = tie.close (tie.spec singles-requires returns sub-tuple tuple-requires returns-2)
