@@ -11,9 +11,10 @@ use borrow.Author.Tests.{lt-leb, ne-eqb}
 use Rattle.model.specs.declared.Refusal.the-variants as Why
 use Rattle.model.specs.Texts.{maxDepth}
 use Rattle.model.specs.Trees.{Tree, node, then, end, treeWords}
+use Rattle.model.specs.ReadFaults as Faults
 use Rattle.model.specs.Reading.{Open, brace, height, start, braced, numbered, whole, Next, go, bad, begin, broken}
 use Rattle.model.proofs.Tests.{never}
-use Rattle.reader_judging.specs.Places.{rest, isOpener, braces, wrapped, Stuck, OpensOne, Opened, Closed, whyOf, Room, Whole, Reads}
+use Rattle.reader_judging.specs.Places.{rest, braces, wrapped, Stuck, OpensOne, Opened, Closed, whyOf, Room, Whole, Reads}
 use Rattle.reader_judging.proofs.Steps.{step-to}
 use Rattle.reader_judging.proofs.Forests.{one-words}
 use Rattle.reader_judging.proofs.Sorts.{missing, refused}
@@ -233,7 +234,7 @@ module _ (d : ℕ) (t : List ℕ) (at w k : ℕ) (opened : Opened t at d k) wher
                 alone = λ q.
                     let none : k ≡ 0 = omega arith in
                     let here : at + 3 * k ≡ at = omega arith in
-                    (refl, ap (λ (i : ℕ). isOpener (getD t i 0)) (sym here) ∙ y .alone (omega arith) .1);
+                    (refl, ap (λ (i : ℕ). Faults.opens (getD t i 0)) (sym here) ∙ y .alone (omega arith) .1);
                 leads = λ o q. into o q ∙ y .leads (braces k o) (inside o q) ∙ closed .leads c (y .stood) o;
               };
             }

@@ -12,9 +12,10 @@ use borrow.Author.Tests.{lt-ltb, le-ltb, le-leb, lt-leb, eq-eqb, ne-eqb, eqb-tru
 use Rattle.model.specs.declared.Refusal.the-variants as Why
 use Rattle.model.specs.Texts.{maxDepth, minus}
 use Rattle.model.specs.Trees.{leaf}
+use Rattle.model.specs.ReadFaults as Faults
 use Rattle.model.specs.Reading.{Open, start, negated, digits, whole, Next, go, bad, isDigit, signed, mostDigits, begin, onward, stopped, broken}
 use Rattle.model.proofs.Tests.{by-test, decide, or-none}
-use Rattle.reader_judging.specs.Places.{rest, isOpener, isFirst, ofDigits, Counted, firstDigit, Awaits, NaturalRead, Natural, negative, NumeralRead, Numeral}
+use Rattle.reader_judging.specs.Places.{rest, isFirst, ofDigits, Counted, firstDigit, Awaits, NaturalRead, Natural, negative, NumeralRead, Numeral}
 use Rattle.reader_judging.proofs.Steps.{step-to, step-bad, at-end, bad-stays}
 use Rattle.reader_judging.proofs.Digits.{no-more, first-so-far}
 
@@ -125,7 +126,7 @@ module _ (t : List ℕ) (at : ℕ) (h : at < length t) where
         };
       }
 
-    plus : negative t at ≡ false → (getD t at 0 ≡ 48 → ⊥) → isOpener (getD t at 0) ≡ false → from ≡ at → most ≡ mostDigits false → Numeral t at r n
+    plus : negative t at ≡ false → (getD t at 0 ≡ 48 → ⊥) → Faults.opens (getD t at 0) ≡ false → from ≡ at → most ≡ mostDigits false → Numeral t at r n
     plus p z k e m =
         let two = or-none (eqb (getD t at 0) 40) (eqb (getD t at 0) 123) k in
         behind-sign false p m (λ o. (
@@ -152,7 +153,7 @@ module _ (t : List ℕ) (at : ℕ) (h : at < length t) where
 
   -- behind a sign or none
   pub with-sign : (sign r n : ℕ) → sign ≡ cond (eqb (getD t at 0) minus) 1 0 → (getD t at 0 ≡ 48 → ⊥)
-      → isOpener (getD t at 0) ≡ false → Natural t (at + sign) (1073741823 + sign) r n → Numeral t at r n
+      → Faults.opens (getD t at 0) ≡ false → Natural t (at + sign) (1073741823 + sign) r n → Numeral t at r n
   with-sign sign r n e z k read =
       ⊎-elim
       (λ (p : negative t at ≡ true).

@@ -13,10 +13,11 @@ use Rattle.model.specs.declared.Refusal.{Refusal}
 use Rattle.model.specs.declared.Refusal.the-variants as Why
 use Rattle.model.specs.Texts.{maxDepth}
 use Rattle.model.specs.Trees.{Tree, leaf, treeWords}
+use Rattle.model.specs.ReadFaults as Faults
 use Rattle.model.specs.Reading.{Open, height, Mode, start, opened, Next, go, bad, signed}
 use Rattle.model.specs.Reading.{begin, onward, stopped, Parsed, broken}
 use Rattle.model.proofs.Tests.{decide, or-cases}
-use Rattle.reader_judging.specs.Places.{rest, isOpener, negative, Numeral, whyOf, Stuck, Whole, Reads}
+use Rattle.reader_judging.specs.Places.{rest, negative, Numeral, whyOf, Stuck, Whole, Reads}
 use Rattle.reader_judging.proofs.Steps.{step-to, step-bad, at-end}
 
 -- what no byte that stands at a place may follow
@@ -36,7 +37,7 @@ refused m s d t at w r w′ k e f g = record {
   comes = λ z. absurd (z e);
 }
 
-begin-deep : (o : Open) (b : ℕ) → isOpener b ≡ true → maxDepth ≤ height o → begin maxDepth o b ≡ bad Why.Deep
+begin-deep : (o : Open) (b : ℕ) → Faults.opens b ≡ true → maxDepth ≤ height o → begin maxDepth o b ≡ bad Why.Deep
 begin-deep o b e h =
     ⊎-elim
     (λ (p : eqb b 40 ≡ true). rw (eqb-true b 40 p, le-leb maxDepth (height o) h))
@@ -47,7 +48,7 @@ begin-paren : (o : Open) (b : ℕ) → b ≡ 40 → height o < maxDepth → begi
 begin-paren o b e h = rw (e, lt-leb maxDepth (height o) h)
 
 -- of the two openers, the other
-pub opener-brace : (b : ℕ) → isOpener b ≡ true → (b ≡ 40 → ⊥) → b ≡ 123
+pub opener-brace : (b : ℕ) → Faults.opens b ≡ true → (b ≡ 40 → ⊥) → b ≡ 123
 opener-brace b k z =
     ⊎-elim
     (λ (p : eqb b 40 ≡ true). absurd (z (eqb-true b 40 p)))
@@ -61,7 +62,7 @@ module _ (d : ℕ) (t : List ℕ) (at w r w′ : ℕ) where
   pub no-integer : (i m : ℕ) → Numeral t at i m → i ≡ 0 → r ≡ 0 → w′ ≡ 10 → Reads start 0 d t at w r w′
   no-integer i m read e f g = refused start 0 d t at w r w′ 10 f g (λ o q. read .stops e o)
 
-  pub an-integer : (m : ℕ) → isOpener (getD t at 0) ≡ false → Numeral t at r m → (r ≡ 0 → ⊥) → w′ ≡ w
+  pub an-integer : (m : ℕ) → Faults.opens (getD t at 0) ≡ false → Numeral t at r m → (r ≡ 0 → ⊥) → w′ ≡ w
       → Reads start 0 d t at w r w′
   an-integer m k read z f =
       let q = read .comes z in
@@ -78,13 +79,13 @@ module _ (d : ℕ) (t : List ℕ) (at w r w′ : ℕ) where
         };
       }
 
-  pub too-deep : at < length t → isOpener (getD t at 0) ≡ true → d ≡ 0 → r ≡ 0 → w′ ≡ 11 → Reads start 0 d t at w r w′
+  pub too-deep : at < length t → Faults.opens (getD t at 0) ≡ true → d ≡ 0 → r ≡ 0 → w′ ≡ 11 → Reads start 0 d t at w r w′
   too-deep h k e f g =
       refused start 0 d t at w r w′ 11 f g
       (λ o q. step-bad t (go (start o)) Why.Deep at h (begin-deep o (getD t at 0) k (omega arith)))
 
   -- "{" where no tuple of one field begins
-  pub stuck : at < length t → isOpener (getD t at 0) ≡ true → (getD t at 0 ≡ 40 → ⊥) → (d ≡ 0 → ⊥) → Stuck t at d
+  pub stuck : at < length t → Faults.opens (getD t at 0) ≡ true → (getD t at 0 ≡ 40 → ⊥) → (d ≡ 0 → ⊥) → Stuck t at d
       → r ≡ 0 → w′ ≡ 10 → Reads start 0 d t at w r w′
   stuck h k z some s f g =
       let more = pos-of-ne-zero some in

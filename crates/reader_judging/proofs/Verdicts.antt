@@ -14,12 +14,13 @@ use Rattle.model.specs.declared.Refusal.{Refusal}
 use Rattle.model.specs.declared.Refusal.the-variants as Why
 use Rattle.model.specs.Texts.{maxDepth}
 use Rattle.model.specs.Trees.{Tree, leaf, node, treeWords}
+use Rattle.model.specs.ReadFaults as Faults
 use Rattle.model.specs.Reading.{outside, start, whole, Next, go, signed, mostDigits, Parsed, tree, broken, parsed}
 use Rattle.model.proofs.Tests.{same?, never}
 use Rattle.reader_judging.specs.declared.Judged.{Judged}
 use Rattle.reader_judging.specs.declared.Judged.the-variants.{Integer, Tuple, Refused}
 use Rattle.reader_judging.specs.Judging.{judgedOf}
-use Rattle.reader_judging.specs.Places.{rest, isOpener, negative, Numeral, whyOf, Reads}
+use Rattle.reader_judging.specs.Places.{rest, negative, Numeral, whyOf, Reads}
 use Rattle.reader_judging.proofs.Steps.{step-bad, at-end}
 
 -- an integer in its range fits 32 bits
@@ -73,7 +74,7 @@ module _ (t : List ℕ) where
   words-of (node g) w z e = let d : w ≡ treeWords (node g) = omega arith in ap Tuple d
 
   module _ (r w : ℕ) (read : Reads start 0 maxDepth t 0 0 r w) where
-    pub a-tuple : 0 < length t → isOpener (getD t 0 0) ≡ true → r ≡ length t → Tuple w ≡ judgedOf (parsed t)
+    pub a-tuple : 0 < length t → Faults.opens (getD t 0 0) ≡ true → r ≡ length t → Tuple w ≡ judgedOf (parsed t)
     a-tuple some k e =
         let y = read .comes (λ q. omega arith) in
         words-of (y .stood) w (λ q. never k (y .alone q .1)) (y .words)

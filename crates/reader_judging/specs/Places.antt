@@ -2,23 +2,21 @@
 -- bytes are read, as `model` defines it: what the bytes from the first place on come to is what those from the place behind come to.
 use Prim.Native.Nat.{ℕ, zero, suc, _+_, _-_, _*_, _≤_, _<_}
 use mathlib.Core.Path.{_≡_}
-use mathlib.Core.Bool.{Bool, true, false, not, cond, _&&_, _||_}
+use mathlib.Core.Bool.{Bool, true, false, not, cond, _&&_}
 use mathlib.Core.List.{List}
 use lib.Dec.{ltb, leb, eqb}
 use lib.ListN.{length, getD, drop}
 use Rattle.model.specs.declared.Refusal.{Refusal}
 use Rattle.model.specs.declared.Refusal.the-variants as Why
-use Rattle.model.specs.Texts.{minus, opener, closer, maxDepth}
+use Rattle.model.specs.Texts.{minus, closer, maxDepth}
 use Rattle.model.specs.Trees.{end, Tree, leaf, node, then, treeWords}
+use Rattle.model.specs.ReadFaults as Faults
 use Rattle.model.specs.Reading.{Open, brace, height, Mode, start, digits, whole, Next, go, bad, isDigit, signed, mostDigits}
 use Rattle.model.specs.Reading.{onward, stopped, Parsed, broken, parsedFrom}
 
 -- what the bytes t from a place on come to, by what was read before it
 abbrev pub rest : List ℕ → Next → ℕ → Parsed
 rest t x at = parsedFrom maxDepth x (drop at t)
-
-abbrev pub isOpener : ℕ → Bool
-isOpener b = eqb b opener || eqb b 123
 
 -- ---- integers
 
@@ -85,7 +83,7 @@ pub record Room (s : ℕ) (t : List ℕ) (at w : ℕ) : Type 0 where
 pub record Tupled (t : List ℕ) (first w : ℕ) : Type 0 where
   pub some : 0 < length t
   pub begins : first ≡ getD t 0 0
-  pub opens : isOpener first ≡ true
+  pub opens : Faults.opens first ≡ true
   pub words : w ≡ 0
 
 -- of a closer at a place, behind so many fields
@@ -103,7 +101,7 @@ module _ (m : Open → Mode) (s d : ℕ) (t : List ℕ) (at w r w′ : ℕ) wher
     pub within : r ≤ length t
     pub words : w′ ≡ w + treeWords stood
     pub wordsFit : w′ + at ≤ w + r + s
-    pub alone : treeWords stood ≡ 0 → (s ≡ 0) × (isOpener (getD t at 0) ≡ false)
+    pub alone : treeWords stood ≡ 0 → (s ≡ 0) × (Faults.opens (getD t at 0) ≡ false)
     pub leads : (o : Open) → height o + (d + s) ≡ maxDepth → rest t (go (m o)) at ≡ rest t (go (whole stood o)) r
 
   -- or why there is none

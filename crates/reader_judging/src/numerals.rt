@@ -5,8 +5,9 @@ ghost use Prim.Native.Nat.{_+_, _≤_, _<_};
 ghost use lib.Dec.{eqb};
 ghost use lib.ListN.{length, getD};
 ghost use Rattle.model.specs.Texts.{minus};
+ghost use Rattle.model.specs.ReadFaults as Faults;
 ghost use Rattle.model.specs.Reading.{isDigit};
-ghost use Rattle.reader_judging.specs.Places.{isOpener, isFirst, Counted, Natural, Numeral};
+ghost use Rattle.reader_judging.specs.Places.{isFirst, Counted, Natural, Numeral};
 
 const MAX_INTEGER: u64 = 1073741823;
 
@@ -20,7 +21,7 @@ const COLON: u8 = 58;
 // No integer in range has more digits, so that the range is asked for once.
 const MOST_DIGITS: usize = 10;
 
-fn is_digit(byte: u8) -> bool
+pub fn is_digit(byte: u8) -> bool
     ensures { λ r. ⌜ r ≡ isDigit byte ⌝ }
 {
     ZERO <= byte && byte < COLON
@@ -93,7 +94,7 @@ fn sign_bytes(first: u8) -> usize
 
 // An integer in its range. Its number without the sign is left in `number`, for whom asks for it.
 pub fn integer(text: &[u8], at: usize, number: &mut u64) -> usize
-    requires { ⌜ (at < length (now text)) × (isOpener (getD (now text) at 0) ≡ false) ⌝ }
+    requires { ⌜ (at < length (now text)) × (Faults.opens (getD (now text) at 0) ≡ false) ⌝ }
     ensures { λ r. ⌜ Numeral (now (text .entry)) at r (now (number .exit)) ⌝ }
 {
     let first = text[at];

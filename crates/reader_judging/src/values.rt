@@ -6,8 +6,9 @@ ghost use mathlib.Core.Bool.{_&&_};
 ghost use Prim.Native.Nat.{_+_, _≤_, _<_};
 ghost use lib.Dec.{ltb, eqb};
 ghost use lib.ListN.{length, getD};
+ghost use Rattle.model.specs.ReadFaults as Faults;
 ghost use Rattle.model.specs.Reading.{start, opened};
-ghost use Rattle.reader_judging.specs.Places.{isOpener, Room, Tupled, Closes, Reads};
+ghost use Rattle.reader_judging.specs.Places.{Room, Tupled, Closes, Reads};
 ghost use Rattle.reader_judging.specs.Places.{Stuck, OpensOne, Opened, Closed};
 use crate::numerals::integer;
 
@@ -35,7 +36,7 @@ pub const DEEP: usize = 11;
 
 // Whether a tuple begins.
 pub fn is_opener(byte: u8) -> bool
-    ensures { λ r. ⌜ r ≡ isOpener byte ⌝ }
+    ensures { λ r. ⌜ r ≡ Faults.opens byte ⌝ }
 {
     byte == OPENER || byte == ONE_OPENER
 }

@@ -16,9 +16,10 @@ use Rattle.model.specs.Limits.{maxWords}
 use Rattle.model.specs.Trees.{Forest, end, leafThen, nodeThen, Tree, leaf, node, count, forestWords, treeWords, treeText, texts, ForestFits, TreeFits}
 use Rattle.model.specs.Texts.{enclosed}
 use Rattle.model.specs.Reading.{isDigit}
+use Rattle.model.specs.ReadFaults as Faults
 use Rattle.model.proofs.Tests.{never}
 use Rattle.reader_placing.specs.Numerals.{IntegerAt, IntegerRead}
-use Rattle.reader_placing.specs.Counting.{isOpener, forestCounts, treeCounts}
+use Rattle.reader_placing.specs.Counting.{forestCounts, treeCounts}
 use Rattle.reader_placing.specs.Placing.{placedIn, objectAt, valueIn, openerWidth, Room, TupleAt, TupleLaid, ValueAt, ValueLaid}
 use Rattle.reader_placing.proofs.Bytes.{First, first-of, after, after-mark, part-within}
 use Rattle.reader_placing.proofs.Trails.{markOf, trail, closeOf, no-digit-close, no-digit-mark, Lead, tuple-lead, no-fields, node-opens, leaf-opens-not}
@@ -47,7 +48,7 @@ module _ (H T : List ℕ) (field at free slot : ℕ) where
   pub value-inside : (t : Tree) (d : ℕ) → ValueAt H T field at free slot d t → at < length T
   value-inside t d a = omega (arith, part-within T at (treeText t) (a .part .mark) (a .part .rest) (a .part .spelt))
 
-  pub node-case : (t : Tree) (d w : ℕ) → ValueAt H T field at free slot d t → isOpener (getD T at 0) ≡ true
+  pub node-case : (t : Tree) (d w : ℕ) → ValueAt H T field at free slot d t → Faults.opens (getD T at 0) ≡ true
       → NodeCase H T field at free slot d w t
   node-case (leaf v) d w a o = never o (leaf-opens-not v (a .part .mark ∷ a .part .rest) T at (a .part .spelt))
   node-case (node g) zero w a o = absurd (a .fits)
@@ -69,7 +70,7 @@ module _ (H T : List ℕ) (field at free slot : ℕ) where
     });
   }
 
-  pub leaf-case : (t : Tree) (d : ℕ) → ValueAt H T field at free slot d t → isOpener (getD T at 0) ≡ false → LeafCase T at t
+  pub leaf-case : (t : Tree) (d : ℕ) → ValueAt H T field at free slot d t → Faults.opens (getD T at 0) ≡ false → LeafCase T at t
   leaf-case (leaf v) d a o = record { number = v; is = refl; integerAt = record { part = a .part; fits = a .fits } }
   leaf-case (node g) d a o = never (node-opens g (a .part .mark ∷ a .part .rest) T at (a .part .spelt)) o
 

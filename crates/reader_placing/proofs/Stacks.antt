@@ -12,7 +12,8 @@ use borrow.Author.Tests.{ne-eqb, eq-eqb}
 use Rattle.model.specs.Limits.{maxWords}
 use Rattle.model.specs.Trees.{Forest, node}
 use Rattle.model.specs.Reading.{isDigit}
-use Rattle.reader_placing.specs.Counting.{isOpener, isCloser, treeCounts, Countable, CountsKept}
+use Rattle.model.specs.ReadFaults as Faults
+use Rattle.reader_placing.specs.Counting.{treeCounts, Countable, CountsKept}
 use Rattle.reader_placing.proofs.Tallies.{Tally, top, under, grown, tallied, tally, SafeStep, Safe, safe-drop, plain-tally, digit-plain, text-told}
 
 -- ---- the array's first n as a stack, the last on top
@@ -145,7 +146,7 @@ module _ (H₀ T : List ℕ) (last : ℕ) (H A : List ℕ) (n slot place : ℕ) 
     pub digit-passed : isDigit (getD T (place - 1) 0) ≡ true → Counting H₀ T last H A n slot (place - 1)
     digit-passed h = same-tally (plain-tally maxWords 0 _ _ _ (digit-plain maxWords 0 _ h))
 
-    pub other-passed : (getD T (place - 1) 0 ≡ 44 → ⊥) → isCloser (getD T (place - 1) 0) ≡ false → isOpener (getD T (place - 1) 0) ≡ false
+    pub other-passed : (getD T (place - 1) 0 ≡ 44 → ⊥) → Faults.closes (getD T (place - 1) 0) ≡ false → Faults.opens (getD T (place - 1) 0) ≡ false
         → Counting H₀ T last H A n slot (place - 1)
     other-passed a b c =
         same-tally (plain-tally maxWords 0 _ _ _ (record { comma = ne-eqb _ _ a; closer = b; opener = c }))
@@ -188,12 +189,12 @@ module _ (H₀ T : List ℕ) (last : ℕ) (H A : List ℕ) (n slot place : ℕ) 
       pub few : n < 64
       pub again : Counting H₀ T last H (set A n 1) (n + 1) slot (place - 1)
 
-    closer-tally : (getD T (place - 1) 0 ≡ 44 → ⊥) → isCloser (getD T (place - 1) 0) ≡ true
+    closer-tally : (getD T (place - 1) 0 ≡ 44 → ⊥) → Faults.closes (getD T (place - 1) 0) ≡ true
         → tally (drop (place - 1) T) ≡ record { stack = 1 ∷ tally (drop place T) .stack; counts = tally (drop place T) .counts }
     unfolding tallied
     closer-tally a b = tally-more ∙ simp (ne-eqb (getD T (place - 1) 0) 44 a, b)
 
-    pub opens : (g : Forest) → Countable H₀ T last g → (getD T (place - 1) 0 ≡ 44 → ⊥) → isCloser (getD T (place - 1) 0) ≡ true → Opens
+    pub opens : (g : Forest) → Countable H₀ T last g → (getD T (place - 1) 0 ≡ 44 → ⊥) → Faults.closes (getD T (place - 1) 0) ≡ true → Opens
     opens g c a b =
         let f : n < 64 = omega (arith, safe-step g c .closer b, stack-size) in
         let t = closer-tally a b in
@@ -222,7 +223,7 @@ module _ (H₀ T : List ℕ) (last : ℕ) (H A : List ℕ) (n slot place : ℕ) 
       pub again : (getD T (place - 1 + 1) 0 ≡ 41 → ⊥)
           → Counting H₀ T last (set H (slot - 1) (getD A (n - 1) 0)) A (n - 1) (slot - 1) (place - 1)
 
-    opener-tally : (v : ℕ) → (getD T (place - 1) 0 ≡ 44 → ⊥) → isCloser (getD T (place - 1) 0) ≡ false → isOpener (getD T (place - 1) 0) ≡ true
+    opener-tally : (v : ℕ) → (getD T (place - 1) 0 ≡ 44 → ⊥) → Faults.closes (getD T (place - 1) 0) ≡ false → Faults.opens (getD T (place - 1) 0) ≡ true
         → cond (eqb (top (drop place T)) 41) 0 (top (tally (drop place T) .stack)) ≡ v
         → tally (drop (place - 1) T) ≡ record { stack = under (tally (drop place T) .stack); counts = v ∷ tally (drop place T) .counts }
     unfolding tallied
@@ -249,8 +250,8 @@ module _ (H₀ T : List ℕ) (last : ℕ) (H A : List ℕ) (n slot place : ℕ) 
         let e : place ≡ place - 1 + 1 = omega arith in
         ap top (drop-cons T place 0 h) ∙ ap (λ (m : ℕ). getD T m 0) e
 
-    pub closes : (g : Forest) → Countable H₀ T last g → (getD T (place - 1) 0 ≡ 44 → ⊥) → isCloser (getD T (place - 1) 0) ≡ false
-        → isOpener (getD T (place - 1) 0) ≡ true → Closes
+    pub closes : (g : Forest) → Countable H₀ T last g → (getD T (place - 1) 0 ≡ 44 → ⊥) → Faults.closes (getD T (place - 1) 0) ≡ false
+        → Faults.opens (getD T (place - 1) 0) ≡ true → Closes
     closes g c a b o =
         let f = safe-step g c .opener o in
         let h : 1 ≤ n = omega (arith, f .0, stack-size) in

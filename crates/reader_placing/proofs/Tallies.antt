@@ -12,8 +12,9 @@ use borrow.Author.Tests.{eqb-false, ne-eqb, leb-true, ltb-true}
 use Rattle.model.specs.Texts.{digits, joined, enclosed}
 use Rattle.model.specs.Trees.{Forest, end, leafThen, nodeThen, Tree, leaf, node, then, count, forestWords, treeWords, texts, treeText, ForestFits, TreeFits}
 use Rattle.model.specs.Reading.{isDigit}
+use Rattle.model.specs.ReadFaults as Faults
 use Rattle.model.proofs.Tests.{never, and-both}
-use Rattle.reader_placing.specs.Counting.{isOpener, isCloser, forestCounts, treeCounts}
+use Rattle.reader_placing.specs.Counting.{forestCounts, treeCounts}
 use Rattle.reader_placing.proofs.Digits.{AllDigits, digits-all}
 use Rattle.reader_placing.proofs.Signs.{some-digit}
 
@@ -40,7 +41,7 @@ closed bs t = record { stack = under (t .stack); counts = cond (eqb (top bs) 41)
 unfoldable pub tallied : ℕ → List ℕ → Tally → Tally
 tallied b bs t =
     cond (eqb b 44) (record { stack = grown (t .stack); counts = t .counts })
-    (cond (isCloser b) (record { stack = 1 ∷ t .stack; counts = t .counts }) (cond (isOpener b) (closed bs t) t))
+    (cond (Faults.closes b) (record { stack = 1 ∷ t .stack; counts = t .counts }) (cond (Faults.opens b) (closed bs t) t))
 
 unfoldable pub tally : List ℕ → Tally
 tally [] = record { stack = []; counts = [] }
@@ -50,8 +51,8 @@ tally (b ∷ bs) = tallied b bs (tally bs)
 module _ (M C : ℕ) where
   pub record SafeStep (b : ℕ) (bs : List ℕ) (t : Tally) : Type 0 where
     pub comma : b ≡ 44 → (1 ≤ length (t .stack)) × (top (t .stack) < M)
-    pub closer : isCloser b ≡ true → length (t .stack) < 64
-    pub opener : isOpener b ≡ true → (1 ≤ length (t .stack)) × (length (t .counts) < C) × (1 ≤ length bs)
+    pub closer : Faults.closes b ≡ true → length (t .stack) < 64
+    pub opener : Faults.opens b ≡ true → (1 ≤ length (t .stack)) × (length (t .counts) < C) × (1 ≤ length bs)
 
   abbrev pub Safe : List ℕ → Type 0
   Safe [] = Unit {0}
@@ -72,8 +73,8 @@ module _ (M C : ℕ) where
 
   pub record Plain (b : ℕ) : Type 0 where
     pub comma : eqb b 44 ≡ false
-    pub closer : isCloser b ≡ false
-    pub opener : isOpener b ≡ false
+    pub closer : Faults.closes b ≡ false
+    pub opener : Faults.opens b ≡ false
 
   pub plain-tally : (b : ℕ) (bs : List ℕ) (t : Tally) → Plain b → tallied b bs t ≡ t
   unfolding tallied
@@ -127,7 +128,7 @@ module _ (M C : ℕ) where
       plain-told 126 (digits (n + 1) ++ l) st cs (record { comma = refl; closer = refl; opener = refl })
       (digits-told (digits (n + 1)) l st cs (digits-all (n + 1) (n + 1) (omega arith)) t)
 
-  closer-told : (b : ℕ) (l st cs : List ℕ) → eqb b 44 ≡ false → isCloser b ≡ true → isOpener b ≡ false → length st < 64 → Told l st cs
+  closer-told : (b : ℕ) (l st cs : List ℕ) → eqb b 44 ≡ false → Faults.closes b ≡ true → Faults.opens b ≡ false → length st < 64 → Told l st cs
       → Told (b ∷ l) (1 ∷ st) cs
   unfolding tally tallied
   closer-told b l st cs e c o h t = record {
@@ -158,7 +159,7 @@ module _ (M C : ℕ) where
     counts = t .counts;
   }
 
-  opener-told : (b n m : ℕ) (l st cs : List ℕ) → eqb b 44 ≡ false → isCloser b ≡ false → isOpener b ≡ true → 1 ≤ length l
+  opener-told : (b n m : ℕ) (l st cs : List ℕ) → eqb b 44 ≡ false → Faults.closes b ≡ false → Faults.opens b ≡ true → 1 ≤ length l
       → cond (eqb (top l) 41) 0 n ≡ m → length cs < C → Told l (n ∷ st) cs → Told (b ∷ l) st (m ∷ cs)
   unfolding tally tallied
   opener-told b n m l st cs e c o s w h t = record {
@@ -273,7 +274,7 @@ module _ (M C : ℕ) where
 
   head-of : (l bs : List ℕ) → AllDigits l → 1 ≤ length l → eqb (top (l ++ bs)) 41 ≡ false
   head-of [] bs a h = absurd (omega arith)
-  head-of (d ∷ ds) bs a h = let p = digit-plain d (a .0) in ne-eqb d 41 (λ z. never (ap isCloser z) (p .closer))
+  head-of (d ∷ ds) bs a h = let p = digit-plain d (a .0) in ne-eqb d 41 (λ z. never (ap Faults.closes z) (p .closer))
 
   enclosed-head : (ps : List (List ℕ)) (bs : List ℕ) → eqb (top (enclosed (λ b. b) ps ++ bs)) 41 ≡ false
   unfolding enclosed

@@ -11,8 +11,8 @@ use borrow.Author.Tests.{ne-eqb, leb-true, ltb-true}
 use Rattle.model.specs.Texts.{integerText, digits, joined, enclosed}
 use Rattle.model.specs.Trees.{Forest, end, leafThen, nodeThen, node, then, count, texts, treeText}
 use Rattle.model.specs.Reading.{isDigit}
+use Rattle.model.specs.ReadFaults as Faults
 use Rattle.model.proofs.Tests.{and-both}
-use Rattle.reader_placing.specs.Counting.{isOpener}
 use Rattle.reader_placing.specs.Placing.{openerWidth}
 use Rattle.reader_placing.proofs.Bytes.{first-of}
 use Rattle.reader_placing.proofs.Signs.{begins-digit}
@@ -85,17 +85,17 @@ no-fields (nodeThen g f) h = absurd (omega arith)
 -- ---- how a value begins
 
 opens-by : (ps : List (List ℕ)) (rest : List ℕ) (T : List ℕ) (at : ℕ) → drop at T ≡ enclosed (λ b. b) ps ++ rest
-    → isOpener (getD T at 0) ≡ true
+    → Faults.opens (getD T at 0) ≡ true
 unfolding enclosed
-opens-by [] rest T at e = ap isOpener (first-of T at 40 _ e .is)
-opens-by (p ∷ []) rest T at e = ap isOpener (first-of T at 123 _ e .is)
-opens-by (p ∷ q ∷ ps) rest T at e = ap isOpener (first-of T at 40 _ e .is)
+opens-by [] rest T at e = ap Faults.opens (first-of T at 40 _ e .is)
+opens-by (p ∷ []) rest T at e = ap Faults.opens (first-of T at 123 _ e .is)
+opens-by (p ∷ q ∷ ps) rest T at e = ap Faults.opens (first-of T at 40 _ e .is)
 
 pub node-opens : (g : Forest) (rest : List ℕ) (T : List ℕ) (at : ℕ) → drop at T ≡ treeText (node g) ++ rest
-    → isOpener (getD T at 0) ≡ true
+    → Faults.opens (getD T at 0) ≡ true
 node-opens g rest T at e = opens-by (texts g) rest T at e
 
-digit-no-opener : (b : ℕ) → isDigit b ≡ true → isOpener b ≡ false
+digit-no-opener : (b : ℕ) → isDigit b ≡ true → Faults.opens b ≡ false
 digit-no-opener b h =
     let a = and-both _ _ h in
     let l = leb-true 48 b (a .0) in
@@ -103,6 +103,6 @@ digit-no-opener b h =
     simp (ne-eqb b 40 (λ z. omega arith), ne-eqb b 123 (λ z. omega arith))
 
 pub leaf-opens-not : (v : ℤ) (rest : List ℕ) (T : List ℕ) (at : ℕ) → drop at T ≡ integerText v ++ rest
-    → isOpener (getD T at 0) ≡ false
+    → Faults.opens (getD T at 0) ≡ false
 leaf-opens-not (pos n) rest T at e = digit-no-opener (getD T at 0) (begins-digit T at n rest e)
-leaf-opens-not (negsuc n) rest T at e = ap isOpener (first-of T at 126 (digits (n + 1) ++ rest) e .is)
+leaf-opens-not (negsuc n) rest T at e = ap Faults.opens (first-of T at 126 (digits (n + 1) ++ rest) e .is)

@@ -1,20 +1,11 @@
 -- The counts of a text's tuples, in the order in which the tuples open, and where they are kept.
 use Prim.Native.Nat.{ℕ, _+_, _≤_}
 use mathlib.Core.Path.{_≡_}
-use mathlib.Core.Bool.{Bool, _||_}
 use mathlib.Core.List.{List, [], _∷_, _++_}
-use lib.Dec.{eqb}
 use lib.ListN.{length}
 use lib.Seq.{sets}
 use Rattle.model.specs.Limits.{maxWords}
-use Rattle.model.specs.Texts.{opener, closer, oneCloser}
 use Rattle.model.specs.Trees.{Forest, end, leafThen, nodeThen, Tree, leaf, node, count, treeText, treeWords, ForestFits}
-
-abbrev pub isOpener : ℕ → Bool
-isOpener b = eqb b opener || eqb b 123
-
-abbrev pub isCloser : ℕ → Bool
-isCloser b = eqb b closer || eqb b oneCloser
 
 -- of the tuples among the values of a tuple, and of a tree
 unfoldable pub forestCounts : Forest → List ℕ

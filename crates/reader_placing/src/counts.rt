@@ -1,30 +1,19 @@
 // The fields of each tuple of a text, counted.
 ghost use mathlib.Core.Path.{_≡_};
 ghost use Rattle.model.specs.Trees.{Forest};
-ghost use Rattle.reader_placing.specs.Counting.{Countable, CountsKept, isCloser, isOpener};
-use crate::numerals::is_digit;
-
-const OPENER: u8 = 40;
+ghost use Rattle.model.specs.ReadFaults as Faults;
+ghost use Rattle.reader_placing.specs.Counting.{Countable, CountsKept};
+use reader_judging::numerals::is_digit;
+use reader_judging::values::is_opener;
 
 const CLOSER: u8 = 41;
 
 const COMMA: u8 = 44;
 
-const ONE_OPENER: u8 = 123;
-
 const ONE_CLOSER: u8 = 125;
 
-pub fn is_opener(byte: u8) -> bool
-    ensures { λ r. ⌜ r ≡ isOpener byte ⌝ }
-{
-    if byte == OPENER {
-        return true;
-    }
-    byte == ONE_OPENER
-}
-
 fn is_closer(byte: u8) -> bool
-    ensures { λ r. ⌜ r ≡ isCloser byte ⌝ }
+    ensures { λ r. ⌜ r ≡ Faults.closes byte ⌝ }
 {
     if byte == CLOSER {
         return true;

@@ -1,14 +1,11 @@
 // An integer of a text, and its word.
-ghost use mathlib.Core.Path.{_≡_};
 ghost use Prim.Native.Nat.{ℕ, _<_};
 ghost use lib.IntN.{ℤ};
 ghost use lib.ListN.{length};
-ghost use Rattle.model.specs.Reading.{isDigit};
 ghost use Rattle.reader_placing.specs.Numerals.{DigitsAt, DigitsRead, IntegerAt, IntegerRead};
+use reader_judging::numerals::is_digit;
 
 const ZERO: u8 = 48;
-
-const NINE: u8 = 57;
 
 const MINUS: u8 = 126;
 
@@ -18,15 +15,6 @@ const LAST_WORD: u32 = 4294967295;
 pub struct Numeral {
     pub number: u32,
     pub end: usize,
-}
-
-pub fn is_digit(byte: u8) -> bool
-    ensures { λ r. ⌜ r ≡ isDigit byte ⌝ }
-{
-    if byte < ZERO {
-        return false;
-    }
-    byte <= NINE
 }
 
 // The number whose digits stand at a place, and the place behind them.

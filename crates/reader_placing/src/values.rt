@@ -2,10 +2,10 @@
 ghost use mathlib.Core.Path.{_≡_};
 ghost use Rattle.model.specs.Trees.{Forest, Tree};
 ghost use Rattle.reader_placing.specs.Placing.{openerWidth, TupleAt, TupleLaid, ValueAt, ValueLaid};
-use crate::counts::is_opener;
 use crate::numerals::integer;
 use model::Index;
 use model::Kind;
+use reader_judging::values::is_opener;
 use words::tuple::Tuple;
 
 // Where what follows begins: in the text, in the heap, among the counts.

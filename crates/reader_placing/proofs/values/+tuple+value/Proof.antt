@@ -20,7 +20,7 @@ use Rattle.reader_placing.proofs.values.+tuple+value.Lts-tuple as tuple
 use Rattle.reader_placing.proofs.values.value.Reads as value
 use Rattle.reader_placing.proofs.values.value.Kinds as value-kinds
 use Rattle.reader_placing.proofs.values.+tuple+value.Lts-value as value-lts
-use Rattle.reader_placing.proofs.counts.is_opener.Reads as is-opener-reads
+use Rattle.reader_judging.proofs.values.is_opener.Reads as is-opener-reads
 use Rattle.reader_placing.proofs.numerals.integer.Reads as integer-reads
 use Rattle.reader_placing.proofs.values.opener_width.Reads as opener-width-reads
 use Rattle.words.proofs.tuple.Tuple.address_of.Reads as address-of-reads
