@@ -30,6 +30,9 @@ const DEEP: usize = 9223372036854775810;
 
 const TEXT: usize = 9223372036854775811;
 
+// No refusal's number.
+const TUPLE: usize = 0;
+
 pub(crate) fn refusal_of(number: usize) -> Refusal
     ensures { λ r. ⌜ r ≡ whyOf number ⌝ }
 {
@@ -91,7 +94,7 @@ fn why_unnamed(word: u32) -> usize
     OBJECT
 }
 
-// Why an even word has no text, or 0 where it names a tuple.
+// Why an even word has no text, or that it names a tuple.
 fn why_textless(heap: &[u32], first: usize, free: usize, word: u32) -> usize
     requires { ⌜ Used (now heap) first free ⌝ }
     ensures { λ r. ⌜ r ≡ textlessNumber first free (now (heap .entry)) word ⌝ }
@@ -101,7 +104,7 @@ fn why_textless(heap: &[u32], first: usize, free: usize, word: u32) -> usize
     }
     let object = Tuple::index_of(Address(word)).0;
     if Tuple::is_traced(heap[object]) {
-        return 0;
+        return TUPLE;
     }
     VALUE
 }
@@ -125,7 +128,7 @@ pub(crate) fn measure_root(heap: &[u32], first: usize, free: usize, room: usize,
         return spend(room, integer_bytes(word));
     }
     let why = why_textless(heap, first, free, word);
-    if why != 0 {
+    if why != TUPLE {
         return why;
     }
     let object = Tuple::index_of(Address(word)).0;
@@ -141,7 +144,7 @@ fn measure(heap: &[u32], first: usize, free: usize, room: usize, word: u32, dept
         return spend(room, integer_bytes(word));
     }
     let why = why_textless(heap, first, free, word);
-    if why != 0 {
+    if why != TUPLE {
         return why;
     }
     if depth == 0 {
@@ -166,6 +169,7 @@ fn measure_tuple(
 {
     let count = Tuple::count_of(heap[object]);
     if count == 0 {
+        // Both parentheses.
         return spend(room, 2);
     }
     let mark = mark_bytes(count);
