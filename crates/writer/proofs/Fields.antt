@@ -1,4 +1,4 @@
--- A tuple from a mark and a field on: what is left of so many bytes after it, and where a writer goes.
+-- A tuple from a lead and a field on: what is left of so many bytes after it, and where a writer goes.
 use Prim.Native.Nat.{ℕ, _+_, _-_, _≤_, _<_}
 use native.Mathlib.Omega.{arith}
 use mathlib.Core.Path.{_≡_, sym, ap, _∙_, subst}
@@ -9,18 +9,18 @@ use Rattle.model.specs.Texts.{Piece, byte, valuePieces}
 use Rattle.writer.specs.Going.{reached, goes, Arrives}
 use Rattle.writer.specs.Measured.{limit, numberOf, measured, spent}
 use Rattle.writer.specs.Forms.{fieldsAt, formIn}
-use Rattle.writer.specs.Tuples.{noFields, mark, markBytes, closerOf, marked, tupleIn}
+use Rattle.writer.specs.Tuples.{noFields, lead, leadBytes, closerOf, fromField, tupleIn}
 use Rattle.writer.proofs.Steps.{on-from, room-for, room-for-bytes, arrives-first, one-fits}
 use Rattle.writer.proofs.Rooms.{number-above, none-left, some-left, spent-bytes, measured-on, measured-stop}
-use Rattle.writer.proofs.Marks.{length-mark, some-mark, no-fields, all-fields, next-field, last-field}
+use Rattle.writer.proofs.Leads.{length-lead, some-lead, no-fields, all-fields, next-field, last-field}
 
 module _ (first last : ℕ) (H : List ℕ) (d : ℕ) where
-  -- a field's pieces, and those from a mark and a field on
+  -- a field's pieces, and those from a lead and a field on
   abbrev pub fieldPieces : ℕ → List Piece
   fieldPieces x = valuePieces (formIn first last H) d x
 
   abbrev pub restPieces : ℕ → ℕ → ℕ → List Piece
-  restPieces i n f = marked n f (map fieldPieces (drop f (fieldsAt H i n)))
+  restPieces i n f = fromField n f (map fieldPieces (drop f (fieldsAt H i n)))
 
 module _ (first last : ℕ) (H : List ℕ) (d i n : ℕ) (within : i + n < length H) where
   abbrev pub onPieces : ℕ → List Piece
@@ -32,7 +32,7 @@ module _ (first last : ℕ) (H : List ℕ) (d i n : ℕ) (within : i + n < lengt
   all-pieces : (n ≡ 0 → ⊥) → restPieces first last H d i n 0 ≡ tupleIn first last H d i n
   all-pieces some = all-fields (fieldPieces first last H d) H i n within some
 
-  on-pieces : (f : ℕ) → f < n → map byte (mark n f) ++ onPieces f ≡ restPieces first last H d i n f
+  on-pieces : (f : ℕ) → f < n → map byte (lead n f) ++ onPieces f ≡ restPieces first last H d i n f
   on-pieces f h = next-field (fieldPieces first last H d) H i n within f h
 
   end-pieces : (f : ℕ) → n ≤ f → byte (closerOf n) ∷ [] ≡ restPieces first last H d i n f
@@ -47,24 +47,24 @@ module _ (first last : ℕ) (H : List ℕ) (d i n : ℕ) (within : i + n < lengt
       → measured room (restPieces first last H d i n 0) ≡ measured room (tupleIn first last H d i n)
   all-measured some room = ap (measured room) (all-pieces some)
 
-  module _ (left f : ℕ) (more : f < n) (bytes : ℕ) (e : bytes ≡ markBytes n) where
-    mark-left : spent left bytes ≡ measured left (map byte (mark n f))
-    mark-left = ap (spent left) (e ∙ length-mark n f) ∙ spent-bytes (mark n f) left
+  module _ (left f : ℕ) (more : f < n) (bytes : ℕ) (e : bytes ≡ leadBytes n) where
+    lead-left : spent left bytes ≡ measured left (map byte (lead n f))
+    lead-left = ap (spent left) (e ∙ length-lead n f) ∙ spent-bytes (lead n f) left
 
-    pub mark-stops : left < limit → left < bytes → numberOf Why.Text ≡ measured left (restPieces first last H d i n f)
-    mark-stops l h =
-        let m = none-left left bytes h ∙ mark-left in
+    pub lead-stops : left < limit → left < bytes → numberOf Why.Text ≡ measured left (restPieces first last H d i n f)
+    lead-stops l h =
+        let m = none-left left bytes h ∙ lead-left in
         m
-        ∙ (measured-stop (map byte (mark n f)) (onPieces f) left l
+        ∙ (measured-stop (map byte (lead n f)) (onPieces f) left l
         (subst (λ (k : ℕ). limit ≤ k) m (number-above Why.Text))
         ∙ ap (measured left) (on-pieces f more))
 
     module _ (l : left < limit) (enough : bytes ≤ left) where
-      mark-on : measured (left - bytes) (onPieces f) ≡ measured left (restPieces first last H d i n f)
-      mark-on =
-          let m = some-left left bytes enough ∙ mark-left in
+      lead-on : measured (left - bytes) (onPieces f) ≡ measured left (restPieces first last H d i n f)
+      lead-on =
+          let m = some-left left bytes enough ∙ lead-left in
           ap (λ (k : ℕ). measured k (onPieces f)) m
-          ∙ (measured-on (map byte (mark n f)) (onPieces f) left (subst (λ (k : ℕ). k < limit) m (omega arith))
+          ∙ (measured-on (map byte (lead n f)) (onPieces f) left (subst (λ (k : ℕ). k < limit) m (omega arith))
           ∙ ap (measured left) (on-pieces f more))
 
       module _ (next : ℕ) (g : next ≡ measured (left - bytes) (fieldPieces first last H d (getD H (i + 1 + f) 0))) where
@@ -73,14 +73,14 @@ module _ (first last : ℕ) (H : List ℕ) (d i n : ℕ) (within : i + n < lengt
             g
             ∙ (measured-stop _ (restPieces first last H d i n (f + 1)) (left - bytes) (omega arith)
             (subst (λ (k : ℕ). limit ≤ k) g h)
-            ∙ mark-on)
+            ∙ lead-on)
 
         pub field-on : next < limit
             → measured next (restPieces first last H d i n (f + 1)) ≡ measured left (restPieces first last H d i n f)
         field-on h =
             ap (λ (k : ℕ). measured k (restPieces first last H d i n (f + 1))) g
             ∙ (measured-on _ (restPieces first last H d i n (f + 1)) (left - bytes) (subst (λ (k : ℕ). k < limit) g h)
-            ∙ mark-on)
+            ∙ lead-on)
 
   pub end-left : (left f r : ℕ) → n ≤ f → r ≡ spent left 1 → r ≡ measured left (restPieces first last H d i n f)
   end-left left f r h e = e ∙ (spent-bytes (closerOf n ∷ []) left ∙ ap (measured left) (end-pieces f h))
@@ -100,23 +100,23 @@ module _ (first last : ℕ) (H : List ℕ) (d i n : ℕ) (within : i + n < lengt
 
   module _ (f place : ℕ) (t : List ℕ) (a : Arrives (goes (restPieces first last H d i n f) place t)) where
     module _ (more : f < n) where
-      pub mark-room : place + length (mark n f) ≤ length t
-      mark-room =
-          room-for-bytes (mark n f) place t (some-mark n f)
-          (arrives-first (map byte (mark n f)) (onPieces f) place t
+      pub lead-room : place + length (lead n f) ≤ length t
+      lead-room =
+          room-for-bytes (lead n f) place t (some-lead n f)
+          (arrives-first (map byte (lead n f)) (onPieces f) place t
           (subst (λ (ps : List Piece). Arrives (goes ps place t)) (sym (on-pieces f more)) a))
 
-      module _ (from : ℕ) (u : List ℕ) (marks : reached from u ≡ goes (map byte (mark n f)) place t) where
-        mark-goes : goes (onPieces f) from u ≡ goes (restPieces first last H d i n f) place t
-        mark-goes = on-from (map byte (mark n f)) (onPieces f) from place t u marks
+      module _ (from : ℕ) (u : List ℕ) (leads : reached from u ≡ goes (map byte (lead n f)) place t) where
+        lead-goes : goes (onPieces f) from u ≡ goes (restPieces first last H d i n f) place t
+        lead-goes = on-from (map byte (lead n f)) (onPieces f) from place t u leads
             ∙ ap (λ (ps : List Piece). goes ps place t) (on-pieces f more)
 
         pub field-arrives : Arrives (goes (fieldPieces first last H d (getD H (i + 1 + f) 0)) from u)
-        field-arrives = arrives-first _ (restPieces first last H d i n (f + 1)) _ _ (subst Arrives (sym mark-goes) a)
+        field-arrives = arrives-first _ (restPieces first last H d i n (f + 1)) _ _ (subst Arrives (sym lead-goes) a)
 
         pub field-goes : (r : ℕ) (v : List ℕ) → reached r v ≡ goes (fieldPieces first last H d (getD H (i + 1 + f) 0)) from u
             → goes (restPieces first last H d i n (f + 1)) r v ≡ goes (restPieces first last H d i n f) place t
-        field-goes r v g = on-from _ (restPieces first last H d i n (f + 1)) r _ _ v g ∙ mark-goes
+        field-goes r v g = on-from _ (restPieces first last H d i n (f + 1)) r _ _ v g ∙ lead-goes
 
     module _ (end : n ≤ f) where
       pub end-room : place < length t

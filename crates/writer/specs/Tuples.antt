@@ -1,4 +1,4 @@
--- A tuple's pieces as the writer comes to them: each field after a mark, and then the closer.
+-- A tuple's pieces as the writer comes to them: each field after its lead, and then the closer.
 use Prim.Native.Nat.{ℕ, _+_}
 use mathlib.Core.Bool.{cond}
 use mathlib.Core.List.{List, [], _∷_, _++_, map}
@@ -12,20 +12,20 @@ use Rattle.writer.specs.Forms.{fieldsAt, formIn}
 abbrev pub noFields : List ℕ
 noFields = opener ∷ closer ∷ []
 
--- the mark before field f of n: "{1=" of a field alone, else "(" or ","
-abbrev pub mark : ℕ → ℕ → List ℕ
-mark n f = cond (eqb n 1) oneOpener (cond (eqb f 0) (opener ∷ []) (comma ∷ []))
+-- what stands before field f of n: "{1=" of a field alone, else "(" or ","
+abbrev pub lead : ℕ → ℕ → List ℕ
+lead n f = cond (eqb n 1) oneOpener (cond (eqb f 0) (opener ∷ []) (comma ∷ []))
 
-abbrev pub markBytes : ℕ → ℕ
-markBytes n = cond (eqb n 1) 3 1
+abbrev pub leadBytes : ℕ → ℕ
+leadBytes n = cond (eqb n 1) 3 1
 
 abbrev pub closerOf : ℕ → ℕ
 closerOf n = cond (eqb n 1) oneCloser closer
 
 -- fields of such pieces, from field f of n on, and the closer
-unfoldable pub marked : ℕ → ℕ → List (List Piece) → List Piece
-marked n f [] = byte (closerOf n) ∷ []
-marked n f (p ∷ ps) = map byte (mark n f) ++ (p ++ marked n (f + 1) ps)
+unfoldable pub fromField : ℕ → ℕ → List (List Piece) → List Piece
+fromField n f [] = byte (closerOf n) ∷ []
+fromField n f (p ∷ ps) = map byte (lead n f) ++ (p ++ fromField n (f + 1) ps)
 
 -- the tuple of the n words after the one at i, whose values have d levels left
 abbrev pub tupleIn : ℕ → ℕ → List ℕ → ℕ → ℕ → ℕ → List Piece

@@ -11,7 +11,7 @@ ghost use Rattle.writer.specs.Measured.{limit, whyOf, spent, measured};
 ghost use Rattle.model.specs.Headers.{tuple};
 ghost use Rattle.model.specs.Objects.{fieldCount};
 ghost use Rattle.writer.specs.Forms.{Used, namedIn, unnamedNumber, textlessNumber, formIn};
-ghost use Rattle.writer.specs.Tuples.{markBytes, objectIn};
+ghost use Rattle.writer.specs.Tuples.{leadBytes, objectIn};
 use crate::MAX_DEPTH;
 use crate::numerals::integer_bytes;
 use model::Address;
@@ -109,9 +109,9 @@ fn why_textless(heap: &[u32], first: usize, free: usize, word: u32) -> usize
     VALUE
 }
 
-// A mark stands before each field: `{1=` of a field alone, else a parenthesis or a comma.
-fn mark_bytes(count: usize) -> usize
-    ensures { λ r. ⌜ r ≡ markBytes count ⌝ }
+// What stands before each field: `{1=` of a field alone, else a parenthesis or a comma.
+fn lead_bytes(count: usize) -> usize
+    ensures { λ r. ⌜ r ≡ leadBytes count ⌝ }
 {
     if count == 1 {
         return 3;
@@ -172,15 +172,15 @@ fn measure_tuple(
         // Both parentheses.
         return spend(room, 2);
     }
-    let mark = mark_bytes(count);
+    let lead = lead_bytes(count);
     let mut left = room;
     let mut field = 0;
     while field < count {
-        if left < mark {
+        if left < lead {
             return TEXT;
         }
         let word = heap[object + 1 + field];
-        let next = measure(heap, first, free, left - mark, word, depth);
+        let next = measure(heap, first, free, left - lead, word, depth);
         if REFUSED <= next {
             return next;
         }

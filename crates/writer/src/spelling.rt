@@ -10,7 +10,7 @@ ghost use Rattle.writer.specs.Going.{reached, goes, Arrives};
 ghost use Rattle.model.specs.Headers.{tuple};
 ghost use Rattle.model.specs.Objects.{fieldCount};
 ghost use Rattle.writer.specs.Forms.{Used, formIn};
-ghost use Rattle.writer.specs.Tuples.{noFields, mark, closerOf, objectIn};
+ghost use Rattle.writer.specs.Tuples.{noFields, lead, closerOf, objectIn};
 use crate::MAX_DEPTH;
 use crate::numerals::spell_integer;
 use model::Address;
@@ -40,10 +40,10 @@ fn spell_none(text: &mut [u8], at: usize) -> usize
     at + 2
 }
 
-// The mark before a field.
-fn spell_mark(text: &mut [u8], at: usize, count: usize, field: usize) -> usize
-    requires { ⌜ at + length (mark count field) ≤ length (now text) ⌝ }
-    ensures { λ r. ⌜ reached r (now (text .exit)) ≡ goes (map byte (mark count field)) at (now (text .entry)) ⌝ }
+// The lead of a field: what stands before it.
+fn spell_lead(text: &mut [u8], at: usize, count: usize, field: usize) -> usize
+    requires { ⌜ at + length (lead count field) ≤ length (now text) ⌝ }
+    ensures { λ r. ⌜ reached r (now (text .exit)) ≡ goes (map byte (lead count field)) at (now (text .entry)) ⌝ }
 {
     if count == 1 {
         text[at] = ONE_OPENER;
@@ -132,7 +132,7 @@ fn spell_tuple(
     let mut place = at;
     let mut field = 0;
     while field < count {
-        let from = spell_mark(text, place, count, field);
+        let from = spell_lead(text, place, count, field);
         let word = heap[object + 1 + field];
         place = spell(heap, first, free, text, from, word, depth);
         field += 1;

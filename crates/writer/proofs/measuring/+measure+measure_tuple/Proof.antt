@@ -12,7 +12,7 @@ use Rattle.model.specs.declared.Refusal.the-variants as Why
 use Rattle.writer.specs.Measured.{limit, measured}
 use Rattle.writer.specs.Tuples.{tupleIn, objectIn}
 use Rattle.writer.proofs.Rooms.{at-fault}
-use Rattle.writer.proofs.Fields.{restPieces, none-measured, all-measured, mark-stops, field-stops, field-on, end-left}
+use Rattle.writer.proofs.Fields.{restPieces, none-measured, all-measured, lead-stops, field-stops, field-on, end-left}
 use Rattle.writer.proofs.Sorts.{odd-left, deep-pieces, Told, number-told, number-stops, told-inside, told-pieces}
 use Prim.Native.Nat.{ℕ, _+_, _-_, _≤_, _<_}
 use borrow.Fn.Kinds.{In}
@@ -25,7 +25,7 @@ use Rattle.writer.proofs.measuring.measure_tuple.Kinds as measure-tuple
 use Rattle.writer.proofs.measuring.+measure+measure_tuple.Lts-measure_tuple as measure-tuple-lts
 use Rattle.words.proofs.tuple.Tuple.count_of.Reads as count-of-reads
 use Rattle.words.proofs.tuple.Tuple.index_of.Reads as index-of-reads
-use Rattle.writer.proofs.measuring.mark_bytes.Reads as mark-bytes-reads
+use Rattle.writer.proofs.measuring.lead_bytes.Reads as lead-bytes-reads
 use Rattle.writer.proofs.measuring.spend.Reads as spend-reads
 use Rattle.writer.proofs.measuring.why_textless.Reads as why-textless-reads
 use Rattle.writer.proofs.numerals.integer_bytes.Reads as integer-bytes-reads
@@ -140,12 +140,12 @@ measure-returns-4 t c =
     (a .depth) (ne-eqb _ _ (tested .before .before .if1 .left)) (c .before .before .if3 .left))
 
 abbrev measure-tuple-Inv-loop : measure-tuple-lts.InvT-loop
-measure-tuple-Inv-loop heap first free room object depth count mark left₀ field₀ left field = (field ≤ count) × (left < limit)
+measure-tuple-Inv-loop heap first free room object depth count lead left₀ field₀ left field = (field ≤ count) × (left < limit)
     × (measured left (restPieces first free heap depth object count field)
     ≡ measured left₀ (restPieces first free heap depth object count field₀))
 
 abbrev measure-tuple-μ-loop : measure-tuple-lts.MeasureT-loop
-measure-tuple-μ-loop heap first free room object depth count mark left₀ field₀ left field = count - field
+measure-tuple-μ-loop heap first free room object depth count lead left₀ field₀ left field = count - field
 
 -- what measure_tuple calls
 abbrev measure-tuple-calls : ℕ → measure-tuple-lts.Claims
@@ -154,8 +154,8 @@ measure-tuple-calls t = (
   count-of-reads.Learnt,
   spend-reads.Asked,
   spend-reads.Learnt,
-  mark-bytes-reads.Asked,
-  mark-bytes-reads.Learnt,
+  lead-bytes-reads.Asked,
+  lead-bytes-reads.Learnt,
   measure-below t,
   measure.Post,
 )
@@ -196,8 +196,8 @@ measure-tuple-returns t c =
     (measure-within t counted) (c .before .if1 .taken) (a .room) _ (c .spend .ensures)
     ∙ measure-all t counted
 
-measure-tuple-mark-bytes-requires : (t : ℕ) → measure-tuple-lts.Need-mark-bytes-requires (measure-tuple-calls t) (measure-tuple-at t) measure-tuple.Post measure-tuple-Inv-loop measure-tuple-μ-loop
-measure-tuple-mark-bytes-requires t c κs = search needs
+measure-tuple-lead-bytes-requires : (t : ℕ) → measure-tuple-lts.Need-lead-bytes-requires (measure-tuple-calls t) (measure-tuple-at t) measure-tuple.Post measure-tuple-Inv-loop measure-tuple-μ-loop
+measure-tuple-lead-bytes-requires t c κs = search needs
 
 -- at the loop's head: after what is left there is left what is left after all of it
 abbrev measure-looped : (t : ℕ) → measure-tuple-lts.At-loop (measure-tuple-calls t) (measure-tuple-at t) measure-tuple.Post measure-tuple-Inv-loop measure-tuple-μ-loop → measure-tuple-lts.After-count-of (measure-tuple-calls t) (measure-tuple-at t) measure-tuple.Post measure-tuple-Inv-loop measure-tuple-μ-loop
@@ -225,8 +225,8 @@ measure-tuple-returns-2 t c =
     let n = measure-looped t head in
     let a = measure-counted t n .args in
     let l = head .loop in
-    mark-stops (a .first) (a .free) (now (a .heap)) (a .depth) (a .object) (n .count-of .result) (measure-within t n) (l .left)
-    (l .field) (c .before .loop-test .taken) _ (head .before .mark-bytes .ensures) (l .inv .1) (c .if2 .taken)
+    lead-stops (a .first) (a .free) (now (a .heap)) (a .depth) (a .object) (n .count-of .result) (measure-within t n) (l .left)
+    (l .field) (c .before .loop-test .taken) _ (head .before .lead-bytes .ensures) (l .inv .1) (c .if2 .taken)
     ∙ measure-left t head
 
 measure-tuple-add-word : (t : ℕ) → measure-tuple-lts.Need-add-word (measure-tuple-calls t) (measure-tuple-at t) measure-tuple.Post measure-tuple-Inv-loop measure-tuple-μ-loop
@@ -259,7 +259,7 @@ measure-tuple-returns-3 t c =
     let l = head .loop in
     let next = c .before .measure in
     field-stops (a .first) (a .free) (now (a .heap)) (a .depth) (a .object) (n .count-of .result) (measure-within t n) (l .left)
-    (l .field) (c .before .before .before .before .loop-test .taken) _ (head .before .mark-bytes .ensures) (l .inv .1)
+    (l .field) (c .before .before .before .before .loop-test .taken) _ (head .before .lead-bytes .ensures) (l .inv .1)
     (c .before .before .before .if2 .left) (next .result) (next .ensures) (c .if3 .taken)
     ∙ measure-left t head
 
@@ -279,7 +279,7 @@ measure-tuple-loop-again t c =
       omega (arith, c .before .before .before .before .loop-test .taken),
       c .if3 .left,
       field-on (a .first) (a .free) (now (a .heap)) (a .depth) (a .object) (n .count-of .result) (measure-within t n) (l .left)
-          (l .field) (c .before .before .before .before .loop-test .taken) _ (head .before .mark-bytes .ensures) (l .inv .1)
+          (l .field) (c .before .before .before .before .loop-test .taken) _ (head .before .lead-bytes .ensures) (l .inv .1)
           (c .before .before .before .if2 .left) (next .result) (next .ensures) (c .if3 .left)
           ∙ l .inv .2,
     )
@@ -317,7 +317,7 @@ pub +measure+measure-tuple-spec : {M : Type 1} → statement M
     (measure-tuple-count-of-requires t)
     (measure-tuple-spend-requires t)
     (measure-tuple-returns t)
-    (measure-tuple-mark-bytes-requires t)
+    (measure-tuple-lead-bytes-requires t)
     (measure-tuple-loop-holds t)
     (measure-tuple-returns-2 t)
     (measure-tuple-add-word t)

@@ -13,7 +13,7 @@ use Rattle.model.specs.Texts.{Piece, valuePieces}
 use Rattle.writer.specs.Forms.{formIn}
 use Rattle.writer.specs.Going.{goes, Arrives}
 use Rattle.writer.specs.Tuples.{tupleIn, objectIn}
-use Rattle.writer.proofs.Fields.{restPieces, none-goes, none-room, all-goes, mark-room, field-arrives, field-goes}
+use Rattle.writer.proofs.Fields.{restPieces, none-goes, none-room, all-goes, lead-room, field-arrives, field-goes}
 use Rattle.writer.proofs.Fields.{end-room, end-goes}
 use Rattle.writer.proofs.Sorts.{odd-pieces, odd-room, Told, arrives-told, arrives-levels}
 use Rattle.writer.proofs.Sorts.{told-inside, told-pieces}
@@ -30,7 +30,7 @@ use Rattle.words.proofs.tuple.Tuple.count_of.Reads as count-of-reads
 use Rattle.words.proofs.tuple.Tuple.index_of.Reads as index-of-reads
 use Rattle.writer.proofs.numerals.spell_integer.Reads as spell-integer-reads
 use Rattle.writer.proofs.spelling.closer_of.Reads as closer-of-reads
-use Rattle.writer.proofs.spelling.spell_mark.Reads as spell-mark-reads
+use Rattle.writer.proofs.spelling.spell_lead.Reads as spell-lead-reads
 use Rattle.writer.proofs.spelling.spell_none.Reads as spell-none-reads
 use Rattle.writer.proofs.spelling.+spell+spell_tuple.{statement}
 use Rattle.writer.proofs.spelling.+spell+spell_tuple.Tie.{close}
@@ -161,8 +161,8 @@ spell-tuple-calls t = (
   count-of-reads.Learnt,
   spell-none-reads.Asked,
   spell-none-reads.Learnt,
-  spell-mark-reads.Asked,
-  spell-mark-reads.Learnt,
+  spell-lead-reads.Asked,
+  spell-lead-reads.Learnt,
   spell-below t,
   spell.Post,
   closer-of-reads.Asked,
@@ -252,13 +252,13 @@ spell-end t c =
     end-room (a .first) (a .free) (now (a .heap)) (a .depth) (a .object) (n .count-of .result) (spell-within t n) (l .field)
     (l .place) (l .text) (spell-arrives t head) (c .loop-test .left)
 
-spell-tuple-spell-mark-requires : (t : ℕ) → spell-tuple-lts.Need-spell-mark-requires (spell-tuple-calls t) (spell-tuple-at t) spell-tuple.Post spell-tuple-Inv-loop spell-tuple-μ-loop
-spell-tuple-spell-mark-requires t c κs =
+spell-tuple-spell-lead-requires : (t : ℕ) → spell-tuple-lts.Need-spell-lead-requires (spell-tuple-calls t) (spell-tuple-at t) spell-tuple.Post spell-tuple-Inv-loop spell-tuple-μ-loop
+spell-tuple-spell-lead-requires t c κs =
     let head = c .before .before in
     let n = spell-looped t head in
     let a = spell-counted t n .args in
     let l = head .loop in
-    mark-room (a .first) (a .free) (now (a .heap)) (a .depth) (a .object) (n .count-of .result) (spell-within t n) (l .field)
+    lead-room (a .first) (a .free) (now (a .heap)) (a .depth) (a .object) (n .count-of .result) (spell-within t n) (l .field)
     (l .place) (l .text) (spell-arrives t head) (c .before .loop-test .taken)
 
 spell-tuple-add-word : (t : ℕ) → spell-tuple-lts.Need-add-word (spell-tuple-calls t) (spell-tuple-at t) spell-tuple.Post spell-tuple-Inv-loop spell-tuple-μ-loop
@@ -280,20 +280,20 @@ spell-tuple-shared-slice-read-word t c =
 
 spell-tuple-spell-requires : (t : ℕ) → spell-tuple-lts.Need-spell-requires (spell-tuple-calls t) (spell-tuple-at t) spell-tuple.Post spell-tuple-Inv-loop spell-tuple-μ-loop
 spell-tuple-spell-requires t c κs =
-    let marked = c .before .before .before .before in
+    let led = c .before .before .before .before in
     let inside = c .before .before .before .before .before .before in
     let head = inside .before in
     let n = spell-looped t head in
     let s = spell-counted t n in
     let a = s .args in
     let l = head .loop in
-    let mark = marked .spell-mark in (
+    let lead = led .spell-lead in (
       omega (arith, s .pre .0),
       (
         s .pre .1 .0,
         field-arrives (a .first) (a .free) (now (a .heap)) (a .depth) (a .object) (n .count-of .result) (spell-within t n)
             (l .field) (l .place) (l .text) (spell-arrives t head) (inside .loop-test .taken)
-            (mark .result) (mark .last .0) (mark .ensures),
+            (lead .result) (lead .last .0) (lead .ensures),
       ),
     )
 
@@ -305,19 +305,19 @@ spell-tuple-loop-less t c = search needs
 
 spell-tuple-loop-again : (t : ℕ) → spell-tuple-lts.Need-loop-again (spell-tuple-calls t) (spell-tuple-at t) spell-tuple.Post spell-tuple-Inv-loop spell-tuple-μ-loop
 spell-tuple-loop-again t c =
-    let marked = c .before .before .before .before .before .before .before in
+    let led = c .before .before .before .before .before .before .before in
     let inside = c .before .before .before .before .before .before .before .before .before in
     let head = inside .before in
     let n = spell-looped t head in
     let a = spell-counted t n .args in
     let l = head .loop in
-    let mark = marked .spell-mark in
+    let lead = led .spell-lead in
     let gone = c .before .before .spell in (
       omega (arith, inside .loop-test .taken),
-      gone .kept .1 .1 .1 .0 ∙ (mark .kept .0 ∙ l .inv .1),
+      gone .kept .1 .1 .1 .0 ∙ (lead .kept .0 ∙ l .inv .1),
       field-goes (a .first) (a .free) (now (a .heap)) (a .depth) (a .object) (n .count-of .result) (spell-within t n)
           (l .field) (l .place) (l .text) (spell-arrives t head) (inside .loop-test .taken)
-          (mark .result) (mark .last .0) (mark .ensures) (gone .result) (gone .last .1 .1 .1 .0) (gone .ensures)
+          (lead .result) (lead .last .0) (lead .ensures) (gone .result) (gone .last .1 .1 .1 .0) (gone .ensures)
           ∙ l .inv .2,
     )
 
@@ -366,7 +366,7 @@ pub +spell+spell-tuple-spec : {M : Type 1} → statement M
     (spell-tuple-same-length t)
     (spell-tuple-returns t)
     (spell-tuple-loop-holds t)
-    (spell-tuple-spell-mark-requires t)
+    (spell-tuple-spell-lead-requires t)
     (spell-tuple-add-word t)
     (spell-tuple-add-word-2 t)
     (spell-tuple-mul-word t)

@@ -1,4 +1,4 @@
--- `writer::spelling::spell_mark` meets its contract, by the number of fields and the field's.
+-- `writer::spelling::spell_lead` meets its contract, by the number of fields and the field's.
 use Prim.Native.Nat.{ℕ, _+_, _≤_}
 use native.Mathlib.Omega.{arith}
 use mathlib.Core.Path.{ap, _∙_}
@@ -8,21 +8,21 @@ use denote.Ref.{now}
 use Rattle.model.specs.Texts.{byte}
 use Rattle.writer.specs.Going.{goes}
 use Rattle.writer.proofs.Steps.{one-fits, three-fit}
-use Rattle.writer.proofs.Marks.{mark-alone, mark-first, mark-other}
+use Rattle.writer.proofs.Leads.{lead-alone, lead-first, lead-other}
 use borrow.Author.Needs.{needs}
-use Rattle.writer.proofs.spelling.spell_mark.Statement.{statement}
-use Rattle.writer.proofs.spelling.spell_mark.Tie as tie
-use Rattle.writer.proofs.spelling.spell_mark.Reads as reads
-use Rattle.writer.proofs.spelling.spell_mark.Lts as lts
+use Rattle.writer.proofs.spelling.spell_lead.Statement.{statement}
+use Rattle.writer.proofs.spelling.spell_lead.Tie as tie
+use Rattle.writer.proofs.spelling.spell_lead.Reads as reads
+use Rattle.writer.proofs.spelling.spell_lead.Lts as lts
 
--- the mark has room, by what it is
+-- the lead has room, by what it is
 abbrev alone : tie.Then1 → tie.Start
 alone c = c .before
 
 three : (c : tie.Then1) → alone c .args .at + 3 ≤ length (now (alone c .args .text))
 three c =
     let s = alone c in
-    omega (arith, s .pre, ap (λ (bs : List ℕ). length bs) (mark-alone (s .args .count) (s .args .field) (c .if1 .taken)))
+    omega (arith, s .pre, ap (λ (bs : List ℕ). length bs) (lead-alone (s .args .count) (s .args .field) (c .if1 .taken)))
 
 first : (c : tie.Then2) → c .before .before .args .at + 1 ≤ length (now (c .before .before .args .text))
 first c =
@@ -30,7 +30,7 @@ first c =
     omega (
       arith,
       s .pre,
-      ap (λ (bs : List ℕ). length bs) (mark-first (s .args .count) (s .args .field) (c .before .if1 .left) (c .if2 .taken)),
+      ap (λ (bs : List ℕ). length bs) (lead-first (s .args .count) (s .args .field) (c .before .if1 .left) (c .if2 .taken)),
     )
 
 other : (c : tie.Else2) → c .before .before .args .at + 1 ≤ length (now (c .before .before .args .text))
@@ -39,7 +39,7 @@ other c =
     omega (
       arith,
       s .pre,
-      ap (λ (bs : List ℕ). length bs) (mark-other (s .args .count) (s .args .field) (c .before .if1 .left) (c .if2 .left)),
+      ap (λ (bs : List ℕ). length bs) (lead-other (s .args .count) (s .args .field) (c .before .if1 .left) (c .if2 .left)),
     )
 
 slice-write-text : tie.Need-slice-write-text
@@ -71,7 +71,7 @@ returns : tie.Need-returns
 returns c =
     let a = alone c .args in
     three-fit (a .at) (now (a .text)) 123 49 61 (three c)
-    ∙ ap (λ (bs : List ℕ). goes (map byte bs) (a .at) (now (a .text))) (mark-alone (a .count) (a .field) (c .if1 .taken))
+    ∙ ap (λ (bs : List ℕ). goes (map byte bs) (a .at) (now (a .text))) (lead-alone (a .count) (a .field) (c .if1 .taken))
 
 slice-write-text-4 : tie.Need-slice-write-text-4
 slice-write-text-4 c = omega (arith, first c)
@@ -87,7 +87,7 @@ returns-2 c =
     let a = c .before .before .args in
     one-fits (a .at) (now (a .text)) 40 (first c)
     ∙ ap (λ (bs : List ℕ). goes (map byte bs) (a .at) (now (a .text)))
-    (mark-first (a .count) (a .field) (c .before .if1 .left) (c .if2 .taken))
+    (lead-first (a .count) (a .field) (c .before .if1 .left) (c .if2 .taken))
 
 slice-write-text-5 : tie.Need-slice-write-text-5
 slice-write-text-5 c = omega (arith, other c)
@@ -103,10 +103,10 @@ returns-3 c =
     let a = c .before .before .args in
     one-fits (a .at) (now (a .text)) 44 (other c)
     ∙ ap (λ (bs : List ℕ). goes (map byte bs) (a .at) (now (a .text)))
-    (mark-other (a .count) (a .field) (c .before .if1 .left) (c .if2 .left))
+    (lead-other (a .count) (a .field) (c .before .if1 .left) (c .if2 .left))
 
-pub spell-mark-spec : {M : Type 1} → statement M
-spell-mark-spec =
+pub spell-lead-spec : {M : Type 1} → statement M
+spell-lead-spec =
     tie.close
     (tie.spec
     slice-write-text
