@@ -13,7 +13,7 @@ const MAX_INTEGER: u64 = 1073741823;
 
 pub const MINUS: u8 = 126;
 
-const ZERO: u8 = 48;
+pub const ZERO: u8 = 48;
 
 // The byte behind that of 9.
 const COLON: u8 = 58;

@@ -17,9 +17,9 @@ pub const MAX_DEPTH: usize = 64;
 
 const OPENER: u8 = 40;
 
-const CLOSER: u8 = 41;
+pub const CLOSER: u8 = 41;
 
-const COMMA: u8 = 44;
+pub const COMMA: u8 = 44;
 
 const ONE_OPENER: u8 = 123;
 
@@ -27,7 +27,7 @@ const ONE: u8 = 49;
 
 const EQUALS: u8 = 61;
 
-const ONE_CLOSER: u8 = 125;
+pub const ONE_CLOSER: u8 = 125;
 
 // Why nothing was read, by document 01's numbers.
 const VALUE: usize = 10;

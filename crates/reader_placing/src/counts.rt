@@ -4,13 +4,10 @@ ghost use Rattle.model.specs.Trees.{Forest};
 ghost use Rattle.model.specs.ReadFaults as Faults;
 ghost use Rattle.reader_placing.specs.Counting.{Countable, CountsKept};
 use reader_judging::numerals::is_digit;
+use reader_judging::values::CLOSER;
+use reader_judging::values::COMMA;
+use reader_judging::values::ONE_CLOSER;
 use reader_judging::values::is_opener;
-
-const CLOSER: u8 = 41;
-
-const COMMA: u8 = 44;
-
-const ONE_CLOSER: u8 = 125;
 
 fn is_closer(byte: u8) -> bool
     ensures { λ r. ⌜ r ≡ Faults.closes byte ⌝ }

@@ -3,11 +3,9 @@ ghost use Prim.Native.Nat.{ℕ, _<_};
 ghost use lib.IntN.{ℤ};
 ghost use lib.ListN.{length};
 ghost use Rattle.reader_placing.specs.Numerals.{DigitsAt, DigitsRead, IntegerAt, IntegerRead};
+use reader_judging::numerals::MINUS;
+use reader_judging::numerals::ZERO;
 use reader_judging::numerals::is_digit;
-
-const ZERO: u8 = 48;
-
-const MINUS: u8 = 126;
 
 // The word of -1.
 const LAST_WORD: u32 = 4294967295;

@@ -1,6 +1,7 @@
 // The bytes of a value that was measured: a value's writer and a tuple's that call each other, with one level
-// fewer each time round. Every byte has room and every word is an integer's or names a tuple, so that nothing
-// is tested; `first` and `free` are what it was measured by, and only the contracts have a use for them.
+// fewer each time round, and the root's value by a writer of its own, as in `measuring`. Every byte has room
+// and every word is an integer's or names a tuple, so that nothing is tested; `first`, `free` and the levels
+// are what it was measured by, and only the contracts have a use for them.
 ghost use mathlib.Core.Path.{_≡_};
 ghost use mathlib.Core.List.{map};
 ghost use Prim.Native.Nat.{_+_, _≤_, _<_};
