@@ -108,23 +108,57 @@ module _ (Y : Layout) (law : WritesBoth Y) (near : Adjacent Y) where
   }
 
   -- what happens in x, and then in an object that is newer than all of g
-  after-inner : {s t u v : State} {g q w p : Graph} {m : Represents Y s g} {x y : ℕ} (a : After s g m x t q) (b : After t q (a .stands) x u w)
-      → After u w (b .stands) y v p → length (g .objects) ≤ y → After s g m x v p
-  after-inner a b c l = record {
-    stands = c .stands;
-    kept = λ z j. c .kept z (b .kept z (a .kept z j));
-    place = λ z j. c .place z (b .kept z (a .kept z j)) ∙ b .place z (a .kept z j) ∙ a .place z j;
-    grown = let i = a .grown in let j = b .grown in let k = c .grown in omega arith;
-    others = λ z k n.
-        let i = a .grown in
-        let j = b .grown in
-        c .others z (omega arith) (λ e. omega arith) ∙ b .others z (omega arith) n ∙ a .others z k n;
+  after-inner : {s t u : State} {g q p : Graph} {m : Represents Y s g} {x y : ℕ} (a : After s g m x t q) → After t q (a .stands) y u p
+      → length (g .objects) ≤ y → After s g m x u p
+  after-inner a b l = record {
+    stands = b .stands;
+    kept = λ z j. b .kept z (a .kept z j);
+    place = λ z j. b .place z (a .kept z j) ∙ a .place z j;
+    grown = let i = a .grown in let j = b .grown in omega arith;
+    others = λ z k n. b .others z (let i = a .grown in omega arith) (λ e. omega arith) ∙ a .others z k n;
   }
+
+  -- a new object y of n fields with its header at j, and its address in field k of x. What the fields' values need of it stands here, so that
+  -- they compute with no more than that
+  record Linked (s : State) (g : Graph) (m : Represents Y s g) (x k : ℕ) (t : State) (q : Graph) (y j n rest : ℕ) : Type 0 where
+    after : After s g m x t q
+    new : In y (after .stands .kept)
+    header : after .stands .headerOf y ≡ j
+    inner : Room q y 0 n
+    later : Room q x (k + 1) rest
+
+  -- the address, when the object is there
+  link-field : {s t : State} {g q : Graph} {m : Represents Y s g} {x k i y j n rest : ℕ} (a : After s g m x t q) → In x (m .kept)
+      → In y (a .stands .kept) → a .stands .headerOf y ≡ j → (y ≡ x → ⊥) → Room q x k (rest + 1) → Room q y 0 n → i ≡ m .headerOf x + 1 + k
+      → Linked s g m x k (withWord t i (address Y j)) (withField q x k (object y)) y j n rest
+  unfolding after-then
+  link-field {s} {t} {g} {q} {m} {x} {k} {i} {y} {j} {n} {rest} a c new header d r v e =
+      let b = field-represents t q (a .stands) x k (a .kept x c) rest i (address Y j) (object y) r (let p = a .place x c in omega arith)
+      (new, ap (address Y) (sym header)) in
+      record {
+        after = after-then a (b .0);
+        new = b .0 .kept y new;
+        header = b .0 .place y new ∙ header;
+        inner = room-kept (b .0) new d v;
+        later = b .1;
+      }
+
+  link : (s : State) (g : Graph) (m : Represents Y s g) (x k i n rest : ℕ) → In x (m .kept) → Room g x k (rest + 1) → i ≡ m .headerOf x + 1 + k
+      → n + 1 ≤ spare s
+      → Linked s g m x k (withWord (appended Y Traced n s) i (address Y (free s)))
+      (withField (withBlank Traced n g) x k (object (length (g .objects)))) (length (g .objects)) (free s) n rest
+  unfolding append-after
+  link s g m x k i n rest c r e fit =
+      let small = few Y law s (parts m) n fit in
+      let under = m .known x c in
+      link-field (append-after s g m n small fit x) c (new-kept Y law s g m Traced n small fit) (new-place Y law s g m Traced n small fit)
+      (λ z. omega arith) (record { fields = r .fields; is = old-nth s g m n small fit x under ∙ r .is; room = r .room })
+      (new-room s g m n small fit) e
 
   pub laid-represents : (f : Forest) (d x k i : ℕ) (s : State) (g : Graph) (m : Represents Y s g) → In x (m .kept) → Room g x k (count f)
       → i ≡ m .headerOf x + 1 + k → ForestFits d f → forestWords f ≤ spare s
       → After s g m x (laid Y f i s) (graphLaid f x k g)
-  unfolding laid graphLaid forestWords count append-after after-inner
+  unfolding laid graphLaid forestWords count
   laid-represents end d x k i s g m c r e a u = record {
     stands = m;
     kept = λ z j. j;
@@ -139,43 +173,26 @@ module _ (Y : Layout) (law : WritesBoth Y) (near : Adjacent Y) where
       (laid-represents f d x (k + 1) (i + 1) (withWord s i (tag v)) (withField g x k (plain (integer v))) m₁ (b .0 .kept x c) (b .1)
       (let p = b .0 .place x c in omega arith) (a .1) (same-fits (forestWords f) (spare s) _ u (lays-spare (word-lays Y s i (tag v)))))
   laid-represents (nodeThen h f) d x k i s g m c r e a u =
-      let n = count h in
-      let y = length (g .objects) in
       let fits = node-fits d h f a in
       let inner = inner-fits d h (fits .0) in
+      let y = length (g .objects) in
       let s₀ = appended Y Traced (count h) s in
-      let l₁ = lays-then (append-lays Y s (count h)) (word-lays Y s₀ i (address Y (free s))) in
       let s₁ = withWord s₀ i (address Y (free s)) in
-      let fitting = rest-fits (count h + 1) (forestWords h) (forestWords f) (spare s) _ _ u (lays-spare l₁)
-      (lays-spare (lays-then l₁ (laid-lays Y h (free s + 1) s₁))) in
-      let small = few Y law s (parts m) (count h) (fitting .0) in
-      let b₀ = append-after s g m (count h) small (fitting .0) x in
-      let m₀ = b₀ .stands in
-      let under = m .known x c in
-      let r₀ : Room (withBlank Traced (count h) g) x k (count f + 1) =
-      record { fields = r .fields; is = old-nth s g m (count h) small (fitting .0) x under ∙ r .is; room = r .room } in
-      let b₁ = field-represents s₀ (withBlank Traced (count h) g) m₀ x k (b₀ .kept x c) (count f) i (address Y (free s))
-      (object (length (g .objects))) r₀ (let p = b₀ .place x c in omega arith)
-      (new-kept Y law s g m Traced (count h) small (fitting .0), ap (address Y) (sym (new-place Y law s g m Traced (count h) small (fitting .0)))) in
-      let q₁ = withField (withBlank Traced (count h) g) x k (object (length (g .objects))) in
-      let m₁ = b₁ .0 .stands in
-      let new₀ = new-kept Y law s g m Traced (count h) small (fitting .0) in
-      let new₁ = b₁ .0 .kept (length (g .objects)) new₀ in
-      let at₁ = b₁ .0 .place (length (g .objects)) new₀ ∙ new-place Y law s g m Traced (count h) small (fitting .0) in
-      let more = length-append (g .objects) (blankObject Traced (count h) ∷ []) in
-      let room₁ : Room q₁ (length (g .objects)) 0 (count h) =
-      record {
-        fields = new-room s g m (count h) small (fitting .0) .fields;
-        is = b₁ .0 .others (length (g .objects)) (omega arith) (λ z. omega arith) ∙ new-room s g m (count h) small (fitting .0) .is;
-        room = new-room s g m (count h) small (fitting .0) .room;
-      } in
-      let b₂ = laid-represents h (inner .0) (length (g .objects)) 0 (free s + 1) s₁ q₁ m₁ new₁ room₁ (omega arith) (inner .1) (fitting .1) in
       let s₂ = laid Y h (free s + 1) s₁ in
-      let q₂ = graphLaid h (length (g .objects)) 0 q₁ in
-      let x₁ = b₁ .0 .kept x (b₀ .kept x c) in
-      let b₀₂ : After s g m x s₂ q₂ = after-inner b₀ (b₁ .0) b₂ (omega arith) in
+      let q₁ = withField (withBlank Traced (count h) g) x k (object y) in
+      let q₂ = graphLaid h y 0 q₁ in
+      let l₁ = lays-then (append-lays Y s (count h)) (word-lays Y s₀ i (address Y (free s))) in
+      let fitting = rest-fits (count h + 1) (forestWords h) (forestWords f) (spare s) (spare s₁) (spare s₂) u (lays-spare l₁)
+      (lays-spare (lays-then l₁ (laid-lays Y h (free s + 1) s₁))) in
+      let b : Linked s g m x k s₁ q₁ y (free s) (count h) (count f) = link s g m x k i (count h) (count f) c r e (fitting .0) in
+      let b₂ : After s₁ q₁ (b .after .stands) y s₂ q₂ =
+      laid-represents h (inner .0) y 0 (free s + 1) s₁ q₁ (b .after .stands) (b .new) (b .inner) (let p = b .header in omega arith)
+      (inner .1) (fitting .1) in
+      let under = m .known x c in
+      let b₀₂ : After s g m x s₂ q₂ = after-inner (b .after) b₂ (omega arith) in
       after-then b₀₂
-      (laid-represents f d x (k + 1) (i + 1) s₂ q₂ (b₂ .stands) (b₂ .kept x x₁) (room-kept b₂ x₁ (λ z. omega arith) (b₁ .1))
+      (laid-represents f d x (k + 1) (i + 1) s₂ q₂ (b₀₂ .stands) (b₀₂ .kept x c)
+      (room-kept b₂ (b .after .kept x c) (λ z. omega arith) (b .later))
       (let p = b₀₂ .place x c in omega arith) (fits .1) (fitting .2))
 
   -- a tree
