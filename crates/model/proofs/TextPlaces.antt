@@ -19,6 +19,25 @@ use Rattle.model.proofs.Texts.{behind-whole, behind-broken}
 abbrev pub spelt : List ℕ → List Piece
 spelt bs = map byte bs
 
+-- lists and pieces that are equal, by their parts
+head-is : {x y : Piece} {xs ys : List Piece} → x ∷ xs ≡ y ∷ ys → x ≡ y
+head-is e = cc
+
+tail-is : {x y : Piece} {xs ys : List Piece} → x ∷ xs ≡ y ∷ ys → xs ≡ ys
+tail-is e = cc
+
+cons-is : {A : Type 0} {x y : A} {xs ys : List A} → x ≡ y → xs ≡ ys → x ∷ xs ≡ y ∷ ys
+cons-is e f = cc
+
+no-cons : {A : Type 0} {x : Piece} {xs : List Piece} → [] ≡ x ∷ xs → A
+no-cons e = let z : _≡_ {A = ℕ} 0 1 = cc in absurd (omega arith)
+
+byte-same : {a b : ℕ} → byte a ≡ byte b → a ≡ b
+byte-same e = cc
+
+no-byte : {A : Type 0} {b : ℕ} {k : Refusal} → byte b ≡ fault k → A
+no-byte e = let z : _≡_ {A = ℕ} 0 1 = cc in absurd (omega arith)
+
 pub spelt-append : (a b : List ℕ) → spelt (a ++ b) ≡ spelt a ++ spelt b
 spelt-append a b = map-append byte a b
 
@@ -166,13 +185,13 @@ split : (p q : List Piece) (bs : List ℕ) (x : Piece) (ys : List Piece) → p +
     → ((zs : List Piece) × (p ≡ spelt bs ++ (x ∷ zs)))
     ⊎ ((t : List ℕ) × (cs : List ℕ) × (bs ≡ t ++ cs) × (p ≡ spelt t) × (q ≡ spelt cs ++ (x ∷ ys)))
 split [] q bs x ys e = inr ([], bs, refl, refl, e)
-split (y ∷ p) q [] x ys e = inl (p, cc)
+split (y ∷ p) q [] x ys e = inl (p, cons-is (head-is e) refl)
 split (y ∷ p) q (b ∷ bs) x ys e =
     ⊎-elim
-    (λ (u : (zs : List Piece) × (p ≡ spelt bs ++ (x ∷ zs))). inl (u .0, cc (u .1)))
+    (λ (u : (zs : List Piece) × (p ≡ spelt bs ++ (x ∷ zs))). inl (u .0, cons-is (head-is e) (u .1)))
     (λ (u : (t : List ℕ) × (cs : List ℕ) × (bs ≡ t ++ cs) × (p ≡ spelt t) × (q ≡ spelt cs ++ (x ∷ ys))).
-    inr (b ∷ u .0, u .1, ap (λ z. b ∷ z) (u .2), cc (u .3), u .4))
-    (split p q bs x ys (cc))
+    inr (b ∷ u .0, u .1, ap (λ z. b ∷ z) (u .2), cons-is (head-is e) (u .3), u .4))
+    (split p q bs x ys (tail-is e))
 
 abbrev pub IsByte : Piece → Type 0
 IsByte (byte b) = Unit {0}
@@ -189,17 +208,11 @@ pub data Where (ps : List (List Piece)) (x : Piece) (n : ℕ) : Type 0 where
 
 byte-is : (b : ℕ) (x : Piece) → byte b ≡ x → IsByte x
 byte-is b (byte c) e = tt
-byte-is b (fault k) e = let z : _≡_ {A = ℕ} 0 1 = cc in absurd (omega arith)
-
-head-is : {x y : Piece} {xs ys : List Piece} → x ∷ xs ≡ y ∷ ys → x ≡ y
-head-is e = cc
-
-tail-is : {x y : Piece} {xs ys : List Piece} → x ∷ xs ≡ y ∷ ys → xs ≡ ys
-tail-is e = cc
+byte-is b (fault k) e = no-byte e
 
 none-left : (bs : List ℕ) (x : Piece) (ys : List Piece) → [] ≡ spelt bs ++ (x ∷ ys) → ⊥
-none-left [] x ys e = let z : _≡_ {A = ℕ} 0 1 = cc in omega arith
-none-left (b ∷ bs) x ys e = let z : _≡_ {A = ℕ} 0 1 = cc in omega arith
+none-left [] x ys e = no-cons e
+none-left (b ∷ bs) x ys e = no-cons e
 
 snoc-spread : (ts : List (List ℕ)) (t : List ℕ) → spread (ts ++ (t ∷ [])) ≡ spread ts + (length t + 1)
 snoc-spread [] t = omega arith
@@ -264,9 +277,9 @@ located (p ∷ q ∷ ps) (b ∷ bs) x ys e =
 
 pub spelt-same : (a b : List ℕ) → spelt a ≡ spelt b → a ≡ b
 spelt-same [] [] e = refl
-spelt-same [] (b ∷ bs) e = let z : _≡_ {A = ℕ} 0 1 = cc in absurd (omega arith)
-spelt-same (a ∷ cs) [] e = let z : _≡_ {A = ℕ} 0 1 = cc in absurd (omega arith)
-spelt-same (a ∷ cs) (b ∷ bs) e = let t = spelt-same cs bs (tail-is e) in let h : a ≡ b = cc in cc
+spelt-same [] (b ∷ bs) e = no-cons e
+spelt-same (a ∷ cs) [] e = no-cons (sym e)
+spelt-same (a ∷ cs) (b ∷ bs) e = cons-is (byte-same (head-is e)) (spelt-same cs bs (tail-is e))
 
 -- a piece among bytes is one
 pub spelt-cut : (t bs : List ℕ) (x : Piece) (ys : List Piece) → spelt t ≡ spelt bs ++ (x ∷ ys) → IsByte x × (length bs < length t)
@@ -276,13 +289,13 @@ spelt-cut (b ∷ t) (c ∷ bs) x ys e = let r = spelt-cut t bs x ys (tail-is e) 
 
 -- a fault alone
 pub no-fault : {A : Type 0} (k : Refusal) (t : List ℕ) → fault k ∷ [] ≡ spelt t → A
-no-fault k [] e = let z : _≡_ {A = ℕ} 0 1 = cc in absurd (omega arith)
-no-fault k (b ∷ t) e = let z : _≡_ {A = ℕ} 0 1 = cc in absurd (omega arith)
+no-fault k [] e = no-cons (sym e)
+no-fault k (b ∷ t) e = no-byte (sym (head-is e))
 
 pub fault-cut : (k : Refusal) (bs : List ℕ) (x : Piece) (ys : List Piece) → fault k ∷ [] ≡ spelt bs ++ (x ∷ ys)
     → (x ≡ fault k) × (length bs ≡ 0)
 fault-cut k [] x ys e = (sym (head-is e), refl)
-fault-cut k (b ∷ bs) x ys e = let z : _≡_ {A = ℕ} 0 1 = cc in absurd (omega arith)
+fault-cut k (b ∷ bs) x ys e = no-byte (sym (head-is e))
 
 -- a tuple of texts is the text of the tuple
 joined-text : (ts : List (List ℕ)) → joined byte (map spelt ts) ≡ spelt (joined (λ b. b) ts)
@@ -301,32 +314,32 @@ enclosed-spelt (t ∷ u ∷ ts) =
 append-spelt : (p q : List Piece) (t : List ℕ) → p ++ q ≡ spelt t
     → (a : List ℕ) × (b : List ℕ) × (p ≡ spelt a) × (q ≡ spelt b)
 append-spelt [] q t e = ([], t, refl, e)
-append-spelt (x ∷ p) q [] e = let z : _≡_ {A = ℕ} 0 1 = cc in absurd (omega arith)
-append-spelt (x ∷ p) q (c ∷ t) e = let r = append-spelt p q t (tail-is e) in (c ∷ r .0, r .1, cc (r .2, head-is e), r .3)
+append-spelt (x ∷ p) q [] e = no-cons (sym e)
+append-spelt (x ∷ p) q (c ∷ t) e = let r = append-spelt p q t (tail-is e) in (c ∷ r .0, r .1, cons-is (head-is e) (r .2), r .3)
 
 spelt-joined : (ps : List (List Piece)) (t : List ℕ) → joined byte ps ≡ spelt t → (ts : List (List ℕ)) × (ps ≡ map spelt ts)
 unfolding joined
 spelt-joined [] t e = ([], refl)
-spelt-joined (p ∷ ps) [] e = let z : _≡_ {A = ℕ} 0 1 = cc in absurd (omega arith)
+spelt-joined (p ∷ ps) [] e = no-cons (sym e)
 spelt-joined (p ∷ ps) (c ∷ t) e =
     let r = append-spelt p (joined byte ps) t (tail-is e) in
     let q = spelt-joined ps (r .1) (r .3) in
-    (r .0 ∷ q .0, cc (r .2, q .1))
+    (r .0 ∷ q .0, cons-is (r .2) (q .1))
 
 pub spelt-enclosed : (ps : List (List Piece)) (t : List ℕ) → enclosed byte ps ≡ spelt t → (ts : List (List ℕ)) × (ps ≡ map spelt ts)
 unfolding enclosed
 spelt-enclosed [] t e = ([], refl)
-spelt-enclosed (p ∷ []) [] e = let z : _≡_ {A = ℕ} 0 1 = cc in absurd (omega arith)
-spelt-enclosed (p ∷ []) (a ∷ []) e = let z : _≡_ {A = ℕ} 0 1 = cc in absurd (omega arith)
-spelt-enclosed (p ∷ []) (a ∷ b ∷ []) e = let z : _≡_ {A = ℕ} 0 1 = cc in absurd (omega arith)
+spelt-enclosed (p ∷ []) [] e = no-cons (sym e)
+spelt-enclosed (p ∷ []) (a ∷ []) e = no-cons (sym (tail-is e))
+spelt-enclosed (p ∷ []) (a ∷ b ∷ []) e = no-cons (sym (tail-is (tail-is e)))
 spelt-enclosed (p ∷ []) (a ∷ b ∷ c ∷ t) e =
     let r = append-spelt p (byte oneCloser ∷ []) t (tail-is (tail-is (tail-is e))) in
-    (r .0 ∷ [], cc (r .2))
-spelt-enclosed (p ∷ q ∷ ps) [] e = let z : _≡_ {A = ℕ} 0 1 = cc in absurd (omega arith)
+    (r .0 ∷ [], cons-is (r .2) refl)
+spelt-enclosed (p ∷ q ∷ ps) [] e = no-cons (sym e)
 spelt-enclosed (p ∷ q ∷ ps) (c ∷ t) e =
     let r = append-spelt p (joined byte (q ∷ ps)) t (tail-is e) in
     let u = spelt-joined (q ∷ ps) (r .1) (r .3) in
-    (r .0 ∷ u .0, cc (r .2, u .1))
+    (r .0 ∷ u .0, cons-is (r .2) (u .1))
 
 pub no-length : {A : Type 0} (xs : List A) → length xs ≡ 0 → xs ≡ []
 no-length [] e = refl
@@ -376,7 +389,7 @@ whole-is (suc n) (byte b ∷ ps) bs e =
 order-at : (cs : List ℕ) (j : Refusal) (ys : List Piece) (bs : List ℕ) (rest : List Piece)
     → spelt cs ++ (fault j ∷ ys) ≡ spelt bs ++ rest → length bs ≤ length cs
 order-at cs j ys [] rest e = omega arith
-order-at [] j ys (b ∷ bs) rest e = let z : _≡_ {A = ℕ} 0 1 = cc in absurd (omega arith)
+order-at [] j ys (b ∷ bs) rest e = no-byte (sym (head-is e))
 order-at (c ∷ cs) j ys (b ∷ bs) rest e = let l = order-at cs j ys bs rest (tail-is e) in omega arith
 
 pub cut-order : {ps ys rest : List Piece} {p m : ℕ} {j : Refusal} → Cut ps p (fault j ∷ ys) → Cut ps m rest → m ≤ p
