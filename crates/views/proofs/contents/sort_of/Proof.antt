@@ -3,6 +3,7 @@ use borrow.Author.Tests.{eq-eqb, ne-eqb, le-leb, lt-leb}
 use mathlib.Core.Path.{_≡_, refl, sym, _∙_}
 use mathlib.Core.Bool.{false}
 use Rattle.model.specs.Words.{State, stateOf}
+use Rattle.model.specs.Headers.{tuple}
 use Rattle.model.specs.Shape.{badShape}
 use Rattle.naming.proofs.NamedObjects.{free-in-heap}
 use Rattle.views.proofs.Inspecting.{sort-tests}
@@ -54,12 +55,15 @@ shared-slice-read-word c = search needs
 returns-3 : tie.Need-returns-3
 returns-3 c =
     let found = c .before .before in
-    sort-tests _ _ _ (shape (shaped found)) (lt-leb _ _ (found .if2 .left)) (eq-eqb _ _ (c .if3 .taken)) refl refl refl
+    let tested = shaped found in
+    sort-tests tuple (start tested .args .root) (lent (start tested)) (shape tested) (lt-leb _ _ (found .if2 .left))
+    (eq-eqb _ _ (c .if3 .taken)) refl refl refl
 
 returns-4 : tie.Need-returns-4
 returns-4 c =
     let found = rooted (c .before) in
-    sort-tests _ _ _ (shape (shaped found)) (lt-leb _ _ (found .if2 .left))
+    let tested = shaped found in
+    sort-tests tuple (start tested .args .root) (lent (start tested)) (shape tested) (lt-leb _ _ (found .if2 .left))
     (ne-eqb _ _ (c .before .if3 .left)) (eq-eqb _ _ (c .if4 .taken)) refl refl
 
 names-requires : tie.Need-names-requires
@@ -72,7 +76,8 @@ returns-5 c =
     let named = c .before in
     let nonnull = named .before in
     let found = rooted (even nonnull) in
-    sort-tests _ _ _ (shape (shaped found)) (lt-leb _ _ (found .if2 .left))
+    let tested = shaped found in
+    sort-tests tuple (start tested .args .root) (lent (start tested)) (shape tested) (lt-leb _ _ (found .if2 .left))
     (ne-eqb _ _ (even nonnull .if3 .left)) (ne-eqb _ _ (nonnull .if4 .left))
     (sym (named .names .ensures _) ∙ c .if5 .taken) refl
 
@@ -86,7 +91,8 @@ returns-6 c =
     let named = unnamed .before in
     let nonnull = named .before in
     let found = rooted (even nonnull) in
-    sort-tests _ _ _ (shape (shaped found)) (lt-leb _ _ (found .if2 .left))
+    let tested = shaped found in
+    sort-tests tuple (start tested .args .root) (lent (start tested)) (shape tested) (lt-leb _ _ (found .if2 .left))
     (ne-eqb _ _ (even nonnull .if3 .left)) (ne-eqb _ _ (nonnull .if4 .left))
     (sym (named .names .ensures _) ∙ unnamed .if5 .left) (sym (judged .is-code .ensures) ∙ c .if6 .taken)
 
@@ -97,7 +103,8 @@ returns-7 c =
     let named = unnamed .before in
     let nonnull = named .before in
     let found = rooted (even nonnull) in
-    sort-tests _ _ _ (shape (shaped found)) (lt-leb _ _ (found .if2 .left))
+    let tested = shaped found in
+    sort-tests tuple (start tested .args .root) (lent (start tested)) (shape tested) (lt-leb _ _ (found .if2 .left))
     (ne-eqb _ _ (even nonnull .if3 .left)) (ne-eqb _ _ (nonnull .if4 .left))
     (sym (named .names .ensures _) ∙ unnamed .if5 .left) (sym (judged .is-code .ensures) ∙ c .if6 .left)
 

@@ -1,7 +1,7 @@
 -- `views::place::find` meets its contract, test by test; an object that is named lies in the heap.
 use Prim.Native.Nat.{_<_}
 use borrow.Author.Tests.{le-leb, lt-leb, not-false}
-use mathlib.Core.Path.{_≡_, sym, ap, _∙_}
+use mathlib.Core.Path.{_≡_, refl, sym, ap, _∙_}
 use mathlib.Core.Bool.{true, false, not}
 use lib.ListN.{length}
 use Rattle.model.specs.Words.{State, stateOf}
@@ -9,8 +9,8 @@ use Rattle.model.specs.Headers.{tuple}
 use Rattle.model.specs.Objects.{names}
 use Rattle.model.specs.Shape.{badShape}
 use Rattle.model.specs.Changes.{rootWord}
-use Rattle.model.specs.Window.{window}
 use Rattle.naming.proofs.NamedObjects.{free-in-heap, header-below}
+use Rattle.views.proofs.Finding.{window-tests}
 use borrow.Author.Needs.{needs}
 use Rattle.views.proofs.place.find.Statement.{statement}
 use Rattle.views.proofs.place.find.Tie as tie
@@ -56,12 +56,10 @@ bad-shape-requires : tie.Need-bad-shape-requires
 bad-shape-requires c κs = search needs
 
 returns : tie.Need-returns
-unfolding window
-returns c = simp (sym (c .before .bad-shape .ensures) ∙ c .if1 .taken)
+returns c = window-tests _ _ _ (sym (c .before .bad-shape .ensures) ∙ c .if1 .taken) refl refl refl refl
 
 returns-2 : tie.Need-returns-2
-unfolding window
-returns-2 c = simp (shape (c .before), le-leb _ _ (c .if2 .taken))
+returns-2 c = window-tests _ _ _ (shape (c .before)) (le-leb _ _ (c .if2 .taken)) refl refl refl
 
 mul-word : tie.Need-mul-word
 mul-word c = search needs
@@ -75,15 +73,11 @@ names-requires c κs =
     free-in-heap (lent (start tested)) (shape tested)
 
 returns-3 : tie.Need-returns-3
-unfolding window
 returns-3 c =
     let found = rooted (c .before .before) in
     let tested = shaped found in
-    simp (
-      shape tested,
-      lt-leb _ _ (found .if2 .left),
-      ap not (sym (c .before .names .ensures (start tested .args .roots .now))) ∙ c .if3 .taken,
-    )
+    window-tests tuple (start tested .args .object) (lent (start tested)) (shape tested) (lt-leb _ _ (found .if2 .left))
+    (ap not (sym (c .before .names .ensures (start tested .args .roots .now))) ∙ c .if3 .taken) refl refl
 
 index-of-requires : tie.Need-index-of-requires
 index-of-requires c κs = search needs
@@ -101,18 +95,14 @@ cast-count : tie.Need-cast-count
 cast-count c = search needs
 
 returns-4 : tie.Need-returns-4
-unfolding window
 returns-4 c =
     let indexed = c .before .before in
     let object = indexed .before in
     let found = rooted (read object) in
-    simp (
-      shape (shaped found),
-      lt-leb _ _ (found .if2 .left),
-      named object,
-      sym (indexed .index-of .ensures),
-      sym (c .count-of .ensures .0),
-    )
+    let tested = shaped found in
+    window-tests tuple (start tested .args .object) (lent (start tested)) (shape tested) (lt-leb _ _ (found .if2 .left))
+    (ap not (named object)) (indexed .index-of .ensures)
+    (c .count-of .ensures .0)
 
 pub find-spec : {M : Type 1} → statement M
 find-spec =
