@@ -1,4 +1,4 @@
--- `views::place::find` meets its contract, test by test; an object that is named lies in the heap.
+-- `views::place::find` meets its contract, by one law of its tests; an object that is named lies in the heap.
 use Prim.Native.Nat.{_<_}
 use borrow.Author.Tests.{le-leb, lt-leb, not-false}
 use mathlib.Core.Path.{_≡_, refl, sym, ap, _∙_}
