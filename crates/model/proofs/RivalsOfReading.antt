@@ -22,9 +22,9 @@ use Rattle.model.specs.Sessions.{step, Machine}
 use Rattle.model.specs.Shape.{badShapeOf}
 use Rattle.model.specs.TextCases.{holding}
 use Rattle.model.specs.TextLaws.{RoundTrip, AcceptsExactly}
-use Rattle.model.specs.Trees.{end, nodeThen, Tree, leaf, node}
+use Rattle.model.specs.Trees.{end, leafThen, nodeThen, Tree, leaf, node}
 use Rattle.model.specs.Words.{State, withHeap, withRoots, withText, at}
-use Rattle.model.specs.Worked.{ran}
+use Rattle.model.specs.Worked.{ran, p5With}
 use Rattle.model.proofs.Deciding.{shape-decides}
 use Rattle.model.proofs.Demand1.{demand1}
 use Rattle.model.proofs.PlainAnswers.{refused-same, done-plainly}
@@ -64,12 +64,12 @@ deep-first-breaks-1 d =
 
 -- ---- what a read does
 
-read-done : (s : State) → step tuple (Ask.Read 0) s .answer ≡ Says.Done → E.Passes tuple (Ask.Read 0) s
-read-done s a = demand1 tuple .session (Ask.Read 0) s .none .0 (λ k e. done-plainly k (sym a ∙ e))
+read-done : (to : ℕ) (s : State) → step tuple (Ask.Read to) s .answer ≡ Says.Done → E.Passes tuple (Ask.Read to) s
+read-done to s a = demand1 tuple .session (Ask.Read to) s .none .0 (λ k e. done-plainly k (sym a ∙ e))
 
 seven-passes : E.Passes tuple (Ask.Read 0) (lent (55 ∷ []))
 unfolding ran
-seven-passes = read-done (lent (55 ∷ [])) refl
+seven-passes = read-done 0 (lent (55 ∷ [])) refl
 
 seven-text : IsText (55 ∷ []) (leaf (pos 7))
 unfolding ran
@@ -95,7 +95,7 @@ twoUnitsTree = node (nodeThen end (nodeThen end end))
 
 units-passes : E.Passes tuple (Ask.Read 0) (lent twoUnits)
 unfolding ran
-units-passes = read-done (lent twoUnits) refl
+units-passes = read-done 0 (lent twoUnits) refl
 
 units-text : IsText twoUnits twoUnitsTree
 unfolding ran
@@ -135,6 +135,41 @@ leaves-root-breaks-round-trip x =
   where
     null-unwritten : Says.Refused Why.Value ≡ Says.Written 1 → ⊥
     null-unwritten e = let z : _≡_ {A = ℕ} 0 1 = cc in omega arith
+
+-- ---- what a read does after a collection
+
+-- P5's start, where (1,2) does not fit before the collection
+abbrev crowded : State
+crowded = withText (40 ∷ 49 ∷ 44 ∷ 50 ∷ 41 ∷ []) (p5With 24 12)
+
+abbrev pairTree : Tree
+pairTree = node (leafThen (pos 1) (leafThen (pos 2) end))
+
+pair-passes : E.Passes tuple (Ask.Read 1) crowded
+unfolding ran
+pair-passes = read-done 1 crowded refl
+
+pair-text : IsText (crowded .text) pairTree
+unfolding ran
+pair-text = parsed-text (crowded .text) pairTree refl
+
+-- what root 1 held is dead where a text is read into it
+abbrev pub oldValueDead : Machine
+oldValueDead = changed (λ c s o. cond (is reads c) (step tuple c (withRoots (set (s .roots) 1 0) s)) o)
+
+pub old-value-dead-breaks-read : E.Effects tuple oldValueDead → ⊥
+unfolding ran
+old-value-dead-breaks-read x =
+    let r = x .readThen 1 crowded pairTree pair-passes pair-text (omega arith) in
+    let w : _≡_ {A = ℕ} 40 52 = r .1 .planted .0 in
+    omega arith
+
+pub leaves-root-breaks-read : E.Effects tuple leavesRoot → ⊥
+unfolding ran
+leaves-root-breaks-read x =
+    let r = x .readThen 1 crowded pairTree pair-passes pair-text (omega arith) in
+    let w : _≡_ {A = ℕ} 12 52 = r .1 .planted .0 in
+    omega arith
 
 -- ---- the texts that are taken
 
