@@ -1,7 +1,1 @@
-pub mod Steps
-pub mod Rooms
-pub mod Digits
-pub mod Leads
-pub mod Fields
-pub mod Sorts
 pub mod Writing

@@ -33,11 +33,11 @@ use Rattle.model.proofs.Refusing.{applies, passes}
 use Rattle.model.proofs.Texts.{whole-fits, textless-same, broken-fault, pieces-faults}
 use Rattle.naming.specs.Named.{FreeInHeap}
 use Rattle.naming.proofs.NamedObjects.{names-tests, free-in-heap}
-use Rattle.writer.specs.Going.{reached, goes, Arrives}
-use Rattle.writer.specs.Measured.{limit, numberOf, whyOf, measured}
-use Rattle.writer.specs.Forms.{namedIn, whyUnnamed, formIn}
-use Rattle.writer.proofs.Steps.{comes, goes-spelled}
-use Rattle.writer.proofs.Rooms.{number-above, leftOf, measured-spelled}
+use Rattle.writer_measuring.specs.Measured.{limit, numberOf, whyOf, measured}
+use Rattle.writer_measuring.specs.Forms.{namedIn, whyUnnamed, formIn}
+use Rattle.writer_measuring.proofs.Rooms.{number-above, leftOf, measured-spelled}
+use Rattle.writer_spelling.specs.Going.{reached, goes, Arrives}
+use Rattle.writer_spelling.proofs.Steps.{comes, goes-spelled}
 
 -- ---- a word's form
 

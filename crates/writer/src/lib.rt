@@ -16,18 +16,10 @@ use model::say;
 use words::shape::bad_shape;
 use words::shape::first_of;
 use words::shape::half_words;
-
-pub mod measuring;
-pub mod numerals;
-pub mod spelling;
-
-use measuring::REFUSED;
-use measuring::measure_root;
-use measuring::refusal_of;
-use spelling::spell_root;
-
-// Tuples nest so deep.
-pub const MAX_DEPTH: usize = 64;
+use writer_measuring::REFUSED;
+use writer_measuring::measure_root;
+use writer_measuring::refusal_of;
+use writer_spelling::spell_root;
 
 // The text of what root `root` holds, into the first bytes of `text`: its length; or SHAPE, ROOT, OBJECT,
 // VALUE, DEEP or TEXT, and then no byte changes. Leaves the heap, the roots and the record.

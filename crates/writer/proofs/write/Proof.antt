@@ -14,8 +14,8 @@ use Rattle.model.specs.Answers.{says}
 use Rattle.model.proofs.Shape.{shaped}
 use Rattle.words.proofs.FirstWords.{first-by-length}
 use Rattle.naming.proofs.NamedObjects.{free-in-heap}
-use Rattle.writer.specs.Measured.{limit}
-use Rattle.writer.specs.Forms.{Used}
+use Rattle.writer_measuring.specs.Measured.{limit}
+use Rattle.writer_measuring.specs.Forms.{Used}
 use Rattle.writer.proofs.Writing.{said-text, write-shape, write-root, write-refused, write-arrives, write-spelt}
 use borrow.Author.Needs.{needs}
 use Rattle.writer.proofs.write.Statement.{statement}
@@ -26,9 +26,9 @@ use Rattle.model.proofs.say.Reads as say-reads
 use Rattle.words.proofs.shape.bad_shape.Reads as bad-shape-reads
 use Rattle.words.proofs.shape.first_of.Reads as first-of-reads
 use Rattle.words.proofs.shape.half_words.Reads as half-words-reads
-use Rattle.writer.proofs.measuring.measure_root.Reads as measure-root-reads
-use Rattle.writer.proofs.measuring.refusal_of.Reads as refusal-of-reads
-use Rattle.writer.proofs.spelling.spell_root.Reads as spell-root-reads
+use Rattle.writer_measuring.proofs.measure_root.Reads as measure-root-reads
+use Rattle.writer_measuring.proofs.refusal_of.Reads as refusal-of-reads
+use Rattle.writer_spelling.proofs.spell_root.Reads as spell-root-reads
 
 -- what the call was lent
 abbrev lent : tie.Start → State

@@ -1,5 +1,0 @@
-pub mod Going
-pub mod Measured
-pub mod Numerals
-pub mod Forms
-pub mod Tuples

@@ -1,0 +1,4 @@
+pub mod Measured
+pub mod Numerals
+pub mod Forms
+pub mod Tuples
