@@ -1,7 +1,7 @@
 // CodeWords::codes: code words set, refused, collected and loaded. P5's start, S = 8.
 use super::calls;
-use super::run;
-use super::start;
+use case_runs::run;
+use case_runs::start;
 use model::Call;
 use model::Record;
 

@@ -1,7 +1,7 @@
 // P5 to P10: collections of P5's words under other roots, and allocations that collect.
 use super::calls;
-use super::run;
-use super::start;
+use case_runs::run;
+use case_runs::start;
 use model::Call;
 use model::Kind;
 

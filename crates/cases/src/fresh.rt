@@ -1,6 +1,6 @@
 // The Fresh cases: S = 8, one null root, each call on its own on what fresh leaves of words that are no heap.
 use super::calls;
-use super::run;
+use case_runs::run;
 use model::Kind;
 
 fn allocated(title: &[u8], fields: usize) {

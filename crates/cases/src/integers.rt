@@ -1,6 +1,6 @@
 // P1 and P2: integers and their words.
 use super::calls;
-use super::start;
+use case_runs::start;
 
 // Set into root 0, and inspected there.
 fn seen(title: &[u8], value: i64) {

@@ -1,8 +1,8 @@
 // EachCall::lowest: the lowest rank that applies is given. S = 8.
 use super::calls;
 use super::root_calls;
-use super::run;
-use super::start;
+use case_runs::run;
+use case_runs::start;
 use model::Kind;
 
 fn root() {

@@ -1,7 +1,7 @@
-// Every case of the definitions' tables in Worked, CodeWords, TextCases, Unnamed, Unsound and EachCall, in their
-// order, through the compiled calls. A line for each: its name, the answers in numbers, for a text that is written
-// its length, for any text the bytes that were lent, and the record, words and roots that are left. The expected lines, worked out from
-// documents 01 and 02, stand in the file `stdout`, and the gate compares.
+// Every case of the definitions' tables in Worked, CodeWords, Unnamed, Unsound and EachCall, in their order, through
+// the compiled calls; those of TextCases are the program `text_cases`. A line for each: its name, the answers in
+// numbers, and the record, words and roots that are left. The expected lines, worked out from documents 01 and 02,
+// stand in the file `stdout`, and the gate compares.
 mod calls;
 mod codes;
 mod collections;
@@ -12,13 +12,9 @@ mod lowest;
 mod names;
 mod objects;
 mod order;
-mod readings;
 mod root_calls;
-mod run;
 mod shape;
 mod single;
-mod start;
-mod texts;
 mod values;
 mod words;
 
@@ -46,8 +42,6 @@ fn each_call() {
 fn main() {
     worked();
     codes::cases();
-    texts::cases();
-    readings::cases();
     names::cases();
     unsound();
     each_call();

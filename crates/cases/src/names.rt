@@ -1,6 +1,6 @@
 // Unnamed::namings: each clause of "names an object" broken alone. S = 5.
 use super::calls;
-use super::run;
+use case_runs::run;
 use model::Record;
 
 // Every call that asks what root 0 names: inspect, then those on a field of each kind.

@@ -1,7 +1,7 @@
 // P3, a tuple, and P4, a string.
 use super::calls;
-use super::run;
-use super::start;
+use case_runs::run;
+use case_runs::start;
 use model::Call;
 use model::Kind;
 use model::Record;

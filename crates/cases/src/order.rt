@@ -1,5 +1,5 @@
 // EachCall::ordered: the order of a collection. S = 7.
-use super::run;
+use case_runs::run;
 use model::Call;
 
 // At 1 an object with the fields `x` and `y`, at 4 one that holds 10, at 6 one with no fields.

@@ -1,6 +1,6 @@
 // Every call that names a root: the root `r`, and the root 0 where it names a second.
 use super::calls;
-use super::run;
+use case_runs::run;
 use model::Kind;
 use model::Record;
 

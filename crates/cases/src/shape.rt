@@ -2,7 +2,7 @@
 // 0, and there is one null root.
 use super::judge;
 use super::root_calls;
-use super::run;
+use case_runs::run;
 use model::Call;
 use model::Record;
 

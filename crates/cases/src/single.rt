@@ -1,7 +1,7 @@
 // EachCall::single and EachCall::twice: each call beside the paper's cases, and a root named twice. S = 8.
 use super::calls;
-use super::run;
-use super::start;
+use case_runs::run;
+use case_runs::start;
 use model::Call;
 use model::Kind;
 

@@ -2,7 +2,7 @@
 // word is any word. S = 5.
 use super::calls;
 use super::judge;
-use super::run;
+use case_runs::run;
 use model::Call;
 
 // At 1 an object whose field is `live`, at 3 one of the header `header` that holds `last`.

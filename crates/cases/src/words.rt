@@ -1,7 +1,7 @@
 // Unsound::ofWords: word 0, the idle half, the free words and the tiling. S = 5.
 ghost use Prim.Native.Nat.{_<_};
 use super::judge;
-use super::run;
+use case_runs::run;
 
 // A word is changed, and that alone.
 fn unsound_a(title: &[u8], index: usize, word: u32)

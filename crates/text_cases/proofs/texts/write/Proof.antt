@@ -1,13 +1,13 @@
--- `cases::texts::write` meets its contract: so many bytes are there.
+-- `text_cases::texts::write` meets its contract: so many bytes are there.
 use native.Mathlib.Omega.{arith}
 use lib.ListN.{length-take}
 use borrow.Author.Needs.{needs}
-use Rattle.cases.proofs.texts.write.Statement.{statement}
-use Rattle.cases.proofs.texts.write.Tie as tie
-use Rattle.cases.proofs.texts.write.Reads as reads
-use Rattle.cases.proofs.texts.write.Lts as lts
-use Rattle.cases.proofs.run.write.Reads as write-reads
-use Rattle.cases.proofs.texts.dots.Reads as dots-reads
+use Rattle.text_cases.proofs.texts.write.Statement.{statement}
+use Rattle.text_cases.proofs.texts.write.Tie as tie
+use Rattle.text_cases.proofs.texts.write.Reads as reads
+use Rattle.text_cases.proofs.texts.write.Lts as lts
+use Rattle.case_runs.proofs.run.write.Reads as write-reads
+use Rattle.text_cases.proofs.texts.dots.Reads as dots-reads
 
 dots-requires : tie.Need-dots-requires
 dots-requires c κs = search needs

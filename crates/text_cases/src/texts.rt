@@ -2,8 +2,8 @@
 ghost use mathlib.Core.Path.{_≡_};
 ghost use Prim.Native.Nat.{_≤_};
 ghost use lib.ListN.{length};
-use super::run;
-use super::start;
+use case_runs::run;
+use case_runs::start;
 use model::Record;
 
 // Bytes that no text has. (A function's own array is one that its callers do not compute with.)

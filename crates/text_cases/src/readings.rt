@@ -1,6 +1,6 @@
 // TextCases::reader: the value of a text, into a root. S = 8.
-use super::run;
-use super::start;
+use case_runs::run;
+use case_runs::start;
 
 // On an empty heap with one null root.
 fn on_blank(title: &[u8], to: usize, text: &mut [u8]) {
