@@ -4,7 +4,6 @@ ghost use mathlib.Core.Path.{_≡_};
 ghost use Rattle.model.specs.Headers as Layouts;
 ghost use Rattle.model.specs.Contracts.{thinLent, thinOutcome};
 ghost use Rattle.model.specs.Calls as Calls;
-use super::by_value;
 use model::Answer;
 use model::Record;
 
@@ -21,7 +20,7 @@ pub fn load(
     ensures { λ r. ⌜ thinOutcome r heap roots «record»
         ≡ Calls.load Layouts.tuple object field to (thinLent heap roots «record») ⌝ }
 {
-    let answered = by_value::load(heap, roots, *record, object, field, to);
+    let answered = host_by_value::load(heap, roots, *record, object, field, to);
     *record = answered.record;
     answered.answer
 }
@@ -39,7 +38,7 @@ pub fn store(
     ensures { λ r. ⌜ thinOutcome r heap roots «record»
         ≡ Calls.store Layouts.tuple object field from (thinLent heap roots «record») ⌝ }
 {
-    let answered = by_value::store(heap, roots, *record, object, field, from);
+    let answered = host_by_value::store(heap, roots, *record, object, field, from);
     *record = answered.record;
     answered.answer
 }
@@ -55,7 +54,7 @@ pub fn raw_read(
     ensures { λ r. ⌜ thinOutcome r heap roots «record»
         ≡ Calls.rawRead Layouts.tuple object field (thinLent heap roots «record») ⌝ }
 {
-    let answered = by_value::raw_read(heap, roots, *record, object, field);
+    let answered = host_by_value::raw_read(heap, roots, *record, object, field);
     *record = answered.record;
     answered.answer
 }
@@ -73,7 +72,7 @@ pub fn raw_write(
     ensures { λ r. ⌜ thinOutcome r heap roots «record»
         ≡ Calls.rawWrite Layouts.tuple object field number (thinLent heap roots «record») ⌝ }
 {
-    let answered = by_value::raw_write(heap, roots, *record, object, field, number);
+    let answered = host_by_value::raw_write(heap, roots, *record, object, field, number);
     *record = answered.record;
     answered.answer
 }

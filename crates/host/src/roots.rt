@@ -4,7 +4,6 @@ ghost use mathlib.Core.Path.{_≡_};
 ghost use Rattle.model.specs.Headers as Layouts;
 ghost use Rattle.model.specs.Contracts.{thinLent, thinOutcome};
 ghost use Rattle.model.specs.Calls as Calls;
-use super::by_value;
 use model::Answer;
 use model::Record;
 
@@ -20,7 +19,7 @@ pub fn set_integer(
     ensures { λ r. ⌜ thinOutcome r heap roots «record»
         ≡ Calls.setInteger to value (thinLent heap roots «record») ⌝ }
 {
-    let answered = by_value::set_integer(heap, roots, *record, to, value);
+    let answered = host_by_value::set_integer(heap, roots, *record, to, value);
     *record = answered.record;
     answered.answer
 }
@@ -29,7 +28,7 @@ pub fn set_integer(
 pub fn set_null(heap: &mut [u32], roots: &mut [u32], record: &mut Record, to: usize) -> Answer
     ensures { λ r. ⌜ thinOutcome r heap roots «record» ≡ Calls.setNull to (thinLent heap roots «record») ⌝ }
 {
-    let answered = by_value::set_null(heap, roots, *record, to);
+    let answered = host_by_value::set_null(heap, roots, *record, to);
     *record = answered.record;
     answered.answer
 }
@@ -46,7 +45,7 @@ pub fn set_code(
     ensures { λ r. ⌜ thinOutcome r heap roots «record»
         ≡ Calls.setCode to word (thinLent heap roots «record») ⌝ }
 {
-    let answered = by_value::set_code(heap, roots, *record, to, word);
+    let answered = host_by_value::set_code(heap, roots, *record, to, word);
     *record = answered.record;
     answered.answer
 }
@@ -62,7 +61,7 @@ pub fn copy(
 ) -> Answer
     ensures { λ r. ⌜ thinOutcome r heap roots «record» ≡ Calls.copy from to (thinLent heap roots «record») ⌝ }
 {
-    let answered = by_value::copy(heap, roots, *record, from, to);
+    let answered = host_by_value::copy(heap, roots, *record, from, to);
     *record = answered.record;
     answered.answer
 }
@@ -79,7 +78,7 @@ pub fn same(
     ensures { λ r. ⌜ thinOutcome r heap roots «record»
         ≡ Calls.same one other (thinLent heap roots «record») ⌝ }
 {
-    let answered = by_value::same(heap, roots, *record, one, other);
+    let answered = host_by_value::same(heap, roots, *record, one, other);
     *record = answered.record;
     answered.answer
 }
@@ -90,7 +89,7 @@ pub fn inspect(heap: &mut [u32], roots: &mut [u32], record: &mut Record, root: u
     ensures { λ r. ⌜ thinOutcome r heap roots «record»
         ≡ Calls.inspect Layouts.tuple root (thinLent heap roots «record») ⌝ }
 {
-    let answered = by_value::inspect(heap, roots, *record, root);
+    let answered = host_by_value::inspect(heap, roots, *record, root);
     *record = answered.record;
     answered.answer
 }

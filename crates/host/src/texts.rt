@@ -1,10 +1,9 @@
 // The calls that are lent the bytes of a text: write, which changes nothing but these bytes, and read, which leaves
-// them. As in `by_value`, both are lent them by `&mut`, and the equation says what is left as it was.
+// them. As in `host_by_value`, both are lent them by `&mut`, and the equation says what is left as it was.
 ghost use mathlib.Core.Path.{_≡_};
 ghost use Rattle.model.specs.Headers as Layouts;
 ghost use Rattle.model.specs.Contracts.{thinLentText, thinOutcomeText};
 ghost use Rattle.model.specs.Calls as Calls;
-use super::by_value;
 use model::Answer;
 use model::Record;
 
@@ -20,7 +19,7 @@ pub fn write(
     ensures { λ r. ⌜ thinOutcomeText r heap roots «record» text
         ≡ Calls.write Layouts.tuple root (thinLentText heap roots «record» text) ⌝ }
 {
-    let answered = by_value::write(heap, roots, *record, root, text);
+    let answered = host_by_value::write(heap, roots, *record, root, text);
     *record = answered.record;
     answered.answer
 }
@@ -37,7 +36,7 @@ pub fn read(
     ensures { λ r. ⌜ thinOutcomeText r heap roots «record» text
         ≡ Calls.read Layouts.tuple to (thinLentText heap roots «record» text) ⌝ }
 {
-    let answered = by_value::read(heap, roots, *record, to, text);
+    let answered = host_by_value::read(heap, roots, *record, to, text);
     *record = answered.record;
     answered.answer
 }

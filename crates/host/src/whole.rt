@@ -5,7 +5,6 @@ ghost use Rattle.model.specs.Headers as Layouts;
 ghost use Rattle.model.specs.Contracts.{thinLent, thinLentText, thinOutcome, thinOutcomeText};
 ghost use Rattle.model.specs.Calls as Calls;
 ghost use Rattle.model.specs.Sessions as Sessions;
-use super::by_value;
 use model::Answer;
 use model::Call;
 use model::Kind;
@@ -16,7 +15,7 @@ use model::Record;
 pub fn fresh(heap: &mut [u32], roots: &mut [u32], record: &mut Record) -> Answer
     ensures { λ r. ⌜ thinOutcome r heap roots «record» ≡ Calls.fresh (thinLent heap roots «record») ⌝ }
 {
-    let answered = by_value::fresh(heap, roots, *record);
+    let answered = host_by_value::fresh(heap, roots, *record);
     *record = answered.record;
     answered.answer
 }
@@ -27,7 +26,7 @@ pub fn check(heap: &mut [u32], roots: &mut [u32], record: &mut Record) -> Answer
     ensures { λ r. ⌜ thinOutcome r heap roots «record»
         ≡ Calls.check Layouts.tuple (thinLent heap roots «record») ⌝ }
 {
-    let answered = by_value::check(heap, roots, *record);
+    let answered = host_by_value::check(heap, roots, *record);
     *record = answered.record;
     answered.answer
 }

@@ -3,8 +3,8 @@ use Rattle.model.specs.Headers.{tuple}
 use Rattle.model.specs.Calls as Calls
 use Rattle.host.proofs.ByValueTypes.{answered, u32-by-value, usize-by-value, as-defined}
 use Rattle.host.proofs.Thin3.{thin-spec}
-use Rattle.host.proofs.by_value.raw_write.Symbol as callee
-use Rattle.host.proofs.by_value.raw_write.Met.{met}
+use Rattle.host_by_value.proofs.raw_write.Symbol as callee
+use Rattle.host_by_value.proofs.raw_write.Met.{met}
 use Rattle.host.proofs.fields.raw_write.Key.{name as #self}
 use Rattle.host.proofs.fields.raw_write.Statement.{statement}
 use Rattle.host.proofs.fields.raw_write.Code as code
@@ -14,4 +14,4 @@ unfolding code.routine
 raw-write-spec 𝓤 H 𝓜 𝓖 𝓡 =
     thin-spec answered usize-by-value usize-by-value u32-by-value
     (λ object field number. as-defined (Calls.rawWrite tuple object field number))
-    callee.name 𝓤 H 𝓜 𝓖 𝓡 code.env #self callee.routine code.calls-host·by-value·raw-write (code.unfolded 𝓤 H 𝓜 𝓡) (met 𝓤 H 𝓜 𝓖 𝓡)
+    callee.name 𝓤 H 𝓜 𝓖 𝓡 code.env #self callee.routine code.calls-host-by-value·raw-write (code.unfolded 𝓤 H 𝓜 𝓡) (met 𝓤 H 𝓜 𝓖 𝓡)

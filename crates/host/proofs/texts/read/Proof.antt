@@ -3,8 +3,8 @@ use Rattle.model.specs.Headers.{tuple}
 use Rattle.model.specs.Calls as Calls
 use Rattle.host.proofs.ByValueTypes.{answered, usize-by-value, as-defined-text}
 use Rattle.host.proofs.Thin1Text.{thin-spec}
-use Rattle.host.proofs.by_value.read.Symbol as callee
-use Rattle.host.proofs.by_value.read.Met.{met}
+use Rattle.host_by_value.proofs.read.Symbol as callee
+use Rattle.host_by_value.proofs.read.Met.{met}
 use Rattle.host.proofs.texts.read.Key.{name as #self}
 use Rattle.host.proofs.texts.read.Statement.{statement}
 use Rattle.host.proofs.texts.read.Code as code
@@ -14,4 +14,4 @@ unfolding code.routine
 read-spec 𝓤 H 𝓜 𝓖 𝓡 =
     thin-spec answered usize-by-value
     (λ to. as-defined-text (Calls.read tuple to))
-    callee.name 𝓤 H 𝓜 𝓖 𝓡 code.env #self callee.routine code.calls-host·by-value·read (code.unfolded 𝓤 H 𝓜 𝓡) (met 𝓤 H 𝓜 𝓖 𝓡)
+    callee.name 𝓤 H 𝓜 𝓖 𝓡 code.env #self callee.routine code.calls-host-by-value·read (code.unfolded 𝓤 H 𝓜 𝓡) (met 𝓤 H 𝓜 𝓖 𝓡)

@@ -3,8 +3,8 @@ use Rattle.model.specs.Headers.{tuple}
 use Rattle.model.specs.Calls as Calls
 use Rattle.host.proofs.ByValueTypes.{answered, usize-by-value, as-defined-text}
 use Rattle.host.proofs.Thin1Text.{thin-spec}
-use Rattle.host.proofs.by_value.write.Symbol as callee
-use Rattle.host.proofs.by_value.write.Met.{met}
+use Rattle.host_by_value.proofs.write.Symbol as callee
+use Rattle.host_by_value.proofs.write.Met.{met}
 use Rattle.host.proofs.texts.write.Key.{name as #self}
 use Rattle.host.proofs.texts.write.Statement.{statement}
 use Rattle.host.proofs.texts.write.Code as code
@@ -14,4 +14,4 @@ unfolding code.routine
 write-spec 𝓤 H 𝓜 𝓖 𝓡 =
     thin-spec answered usize-by-value
     (λ root. as-defined-text (Calls.write tuple root))
-    callee.name 𝓤 H 𝓜 𝓖 𝓡 code.env #self callee.routine code.calls-host·by-value·write (code.unfolded 𝓤 H 𝓜 𝓡) (met 𝓤 H 𝓜 𝓖 𝓡)
+    callee.name 𝓤 H 𝓜 𝓖 𝓡 code.env #self callee.routine code.calls-host-by-value·write (code.unfolded 𝓤 H 𝓜 𝓡) (met 𝓤 H 𝓜 𝓖 𝓡)

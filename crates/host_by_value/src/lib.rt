@@ -1,6 +1,6 @@
-// The by-value calls that are not lent every slice by `&mut`, each lent all so: its equation says what it
-// leaves as it was. Every thin call then lends heap and roots the same way to what it calls, and the walks of
-// their code differ in nothing but the number of values that follow the record.
+// For `host`: the by-value calls that are not lent every slice by `&mut`, each lent all so: its equation says what
+// it leaves as it was. Every thin call of `host` then lends heap and roots the same way to what it calls, and the
+// walks of their code differ in nothing but the number of values that follow the record.
 ghost use mathlib.Core.Path.{_≡_};
 ghost use Rattle.model.specs.Headers as Layouts;
 ghost use Rattle.model.specs.Contracts.{lent, lentText, outcome, outcomeText};
@@ -8,19 +8,19 @@ ghost use Rattle.model.specs.Calls as Calls;
 use model::Answered;
 use model::Record;
 
-pub(crate) fn fresh(heap: &mut [u32], roots: &mut [u32], record: Record) -> Answered
+pub fn fresh(heap: &mut [u32], roots: &mut [u32], record: Record) -> Answered
     ensures { λ r. ⌜ outcome r heap roots ≡ Calls.fresh (lent heap roots «record») ⌝ }
 {
     blind::fresh(heap, roots, record)
 }
 
-pub(crate) fn check(heap: &mut [u32], roots: &mut [u32], record: Record) -> Answered
+pub fn check(heap: &mut [u32], roots: &mut [u32], record: Record) -> Answered
     ensures { λ r. ⌜ outcome r heap roots ≡ Calls.check Layouts.tuple (lent heap roots «record») ⌝ }
 {
     checker::check(heap, roots, record)
 }
 
-pub(crate) fn set_integer(
+pub fn set_integer(
     heap: &mut [u32],
     roots: &mut [u32],
     record: Record,
@@ -32,13 +32,13 @@ pub(crate) fn set_integer(
     blind::set_integer(heap, roots, record, to, value)
 }
 
-pub(crate) fn set_null(heap: &mut [u32], roots: &mut [u32], record: Record, to: usize) -> Answered
+pub fn set_null(heap: &mut [u32], roots: &mut [u32], record: Record, to: usize) -> Answered
     ensures { λ r. ⌜ outcome r heap roots ≡ Calls.setNull to (lent heap roots «record») ⌝ }
 {
     blind::set_null(heap, roots, record, to)
 }
 
-pub(crate) fn set_code(
+pub fn set_code(
     heap: &mut [u32],
     roots: &mut [u32],
     record: Record,
@@ -50,19 +50,13 @@ pub(crate) fn set_code(
     blind::set_code(heap, roots, record, to, word)
 }
 
-pub(crate) fn copy(
-    heap: &mut [u32],
-    roots: &mut [u32],
-    record: Record,
-    from: usize,
-    to: usize,
-) -> Answered
+pub fn copy(heap: &mut [u32], roots: &mut [u32], record: Record, from: usize, to: usize) -> Answered
     ensures { λ r. ⌜ outcome r heap roots ≡ Calls.copy from to (lent heap roots «record») ⌝ }
 {
     blind::copy(heap, roots, record, from, to)
 }
 
-pub(crate) fn same(
+pub fn same(
     heap: &mut [u32],
     roots: &mut [u32],
     record: Record,
@@ -74,13 +68,13 @@ pub(crate) fn same(
     blind::same(heap, roots, record, one, other)
 }
 
-pub(crate) fn inspect(heap: &mut [u32], roots: &mut [u32], record: Record, root: usize) -> Answered
+pub fn inspect(heap: &mut [u32], roots: &mut [u32], record: Record, root: usize) -> Answered
     ensures { λ r. ⌜ outcome r heap roots ≡ Calls.inspect Layouts.tuple root (lent heap roots «record») ⌝ }
 {
     views::inspect(heap, roots, record, root)
 }
 
-pub(crate) fn load(
+pub fn load(
     heap: &mut [u32],
     roots: &mut [u32],
     record: Record,
@@ -94,7 +88,7 @@ pub(crate) fn load(
     objects::load(heap, roots, record, object, field, to)
 }
 
-pub(crate) fn store(
+pub fn store(
     heap: &mut [u32],
     roots: &mut [u32],
     record: Record,
@@ -108,7 +102,7 @@ pub(crate) fn store(
     objects::store(heap, roots, record, object, field, from)
 }
 
-pub(crate) fn raw_read(
+pub fn raw_read(
     heap: &mut [u32],
     roots: &mut [u32],
     record: Record,
@@ -121,7 +115,7 @@ pub(crate) fn raw_read(
     objects::raw_read(heap, roots, record, object, field)
 }
 
-pub(crate) fn raw_write(
+pub fn raw_write(
     heap: &mut [u32],
     roots: &mut [u32],
     record: Record,
@@ -135,7 +129,7 @@ pub(crate) fn raw_write(
     objects::raw_write(heap, roots, record, object, field, number)
 }
 
-pub(crate) fn write(
+pub fn write(
     heap: &mut [u32],
     roots: &mut [u32],
     record: Record,
@@ -148,7 +142,7 @@ pub(crate) fn write(
     writer::write(heap, roots, record, root, text)
 }
 
-pub(crate) fn read(
+pub fn read(
     heap: &mut [u32],
     roots: &mut [u32],
     record: Record,

@@ -1,10 +1,10 @@
--- `by_value::set_integer` meets its contract, which is its callee's: the machine word of an `i64` reads back as the integer.
+-- `host_by_value::set_integer` meets its contract, which is its callee's: the machine word of an `i64` reads back as the integer.
 use mir.ValLaws.{toZ-ofZ}
 use borrow.Author.Needs.{needs}
-use Rattle.host.proofs.by_value.set_integer.Statement.{statement}
-use Rattle.host.proofs.by_value.set_integer.Tie as tie
-use Rattle.host.proofs.by_value.set_integer.Reads as reads
-use Rattle.host.proofs.by_value.set_integer.Lts as lts
+use Rattle.host_by_value.proofs.set_integer.Statement.{statement}
+use Rattle.host_by_value.proofs.set_integer.Tie as tie
+use Rattle.host_by_value.proofs.set_integer.Reads as reads
+use Rattle.host_by_value.proofs.set_integer.Lts as lts
 use Rattle.blind.proofs.integer.set_integer.Reads as set-integer-reads
 
 set-integer-requires : tie.Need-set-integer-requires
