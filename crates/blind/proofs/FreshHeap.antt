@@ -14,7 +14,7 @@ use Rattle.model.specs.Calls as Calls
 use Rattle.model.specs.Calls.{freshRecord}
 use Rattle.runs.specs.Runs.{cleared}
 use Rattle.runs.proofs.RunLaws.{cleared-length, cleared-inside}
-use Rattle.model.proofs.Refusing.{passes}
+use Rattle.theory.proofs.Refusing.{passes}
 
 cleared-all : (h : List ℕ) → cleared h 0 (length h) ≡ replicate (length h) 0
 cleared-all h =

@@ -14,10 +14,10 @@ use Rattle.model.specs.Headers.{Layout}
 use Rattle.model.specs.Objects.{size, fieldCount, fieldWords}
 use Rattle.model.specs.Soundness.{tiles, headersFrom}
 use Rattle.model.specs.Words.{at}
-use Rattle.model.proofs.Retiling.{tiles-same}
-use Rattle.model.proofs.Tests.{by-test, same?}
-use Rattle.model.proofs.Tiling.{tiles-step, headers-tile}
-use Rattle.model.proofs.Walks.{tiles-past}
+use Rattle.theory.proofs.Retiling.{tiles-same}
+use Rattle.theory.proofs.Tests.{by-test, same?}
+use Rattle.theory.proofs.Tiling.{tiles-step, headers-tile}
+use Rattle.theory.proofs.Walks.{tiles-past}
 use Rattle.runs.specs.Runs.{run, Apart}
 use Rattle.runs.proofs.RunLaws.{Outside}
 use Rattle.checker_marks.specs.declared.Part.{Part}

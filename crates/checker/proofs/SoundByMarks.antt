@@ -18,11 +18,11 @@ use Rattle.model.specs.Shape.{badShape}
 use Rattle.model.specs.Soundness.{all, allZero, isTiled, headers, isValue, fieldsAreValues, sound}
 use Rattle.model.specs.Values.{isAddress, isNull}
 use Rattle.model.specs.Words.{State, at, halfWords, firstWord, otherFirst, free}
-use Rattle.model.proofs.Members.{In, in-self, in-tail}
-use Rattle.model.proofs.Shape.{Shaped, shaped, first-in, other-in}
-use Rattle.model.proofs.Soundness.{zeros-at}
-use Rattle.model.proofs.Tests.{by-test, decide, and-both}
-use Rattle.model.proofs.Tiling.{headers-tile}
+use Rattle.theory.proofs.Members.{In, in-self, in-tail}
+use Rattle.theory.proofs.Shape.{Shaped, shaped, first-in, other-in}
+use Rattle.theory.proofs.Soundness.{zeros-at}
+use Rattle.theory.proofs.Tests.{by-test, decide, and-both}
+use Rattle.theory.proofs.Tiling.{headers-tile}
 use Rattle.runs.specs.Runs.{cleared, Apart}
 use Rattle.runs.proofs.RunLaws.{cleared-length, cleared-inside, cleared-outside}
 use Rattle.checker_marks.specs.declared.Part.{Part}

@@ -10,8 +10,8 @@ use lib.Dec.{eqb, ltb, leb}
 use lib.ListN.{length, set, take}
 use lib.Seq.{drop-cons}
 use borrow.Author.Tests.{ltb-true, leb-true, lt-ltb, le-ltb, ne-eqb}
-use Rattle.model.proofs.Tests.{decide, and-both}
-use Rattle.model.proofs.WordSorts.{parts-address, odd-no-address, parts-code, code-no-address, address-no-code}
+use Rattle.theory.proofs.Tests.{decide, and-both}
+use Rattle.theory.proofs.WordSorts.{parts-address, odd-no-address, parts-code, code-no-address, address-no-code}
 use Rattle.model.specs.Headers.{Layout, Adjacent}
 use Rattle.model.specs.Limits.{codeFloor}
 use Rattle.model.specs.Objects.{isTraced, index, kind, fieldCount, size}

@@ -19,8 +19,8 @@ use Rattle.model.specs.Headers.{Layout}
 use Rattle.model.specs.Answers.{told}
 use Rattle.model.specs.Calls.{fresh}
 use Rattle.model.specs.Sessions.{step}
-use Rattle.model.proofs.PlainAnswers.{no-zero}
-use Rattle.model.proofs.Telling.{heard, numbers-apart, read-back, fresh-back, number-back, apart-by-two}
+use Rattle.theory.proofs.PlainAnswers.{no-zero}
+use Rattle.theory.proofs.Telling.{heard, numbers-apart, read-back, fresh-back, number-back, apart-by-two}
 use Rattle.numbers.specs.Places.{holdsCode}
 use Rattle.crossing.specs.declared.CSeen.{CSeen}
 use Rattle.crossing.specs.declared.CWritten.{CWritten}

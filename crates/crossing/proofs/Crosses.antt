@@ -25,7 +25,7 @@ use Rattle.model.specs.Calls.{fresh, inspect}
 use Rattle.model.specs.Laws.{changesRecord}
 use Rattle.model.specs.Window.{window}
 use Rattle.model.specs.Sessions.{step}
-use Rattle.model.proofs.Leaving.{record-stays, inspect-stays}
+use Rattle.theory.proofs.Leaving.{record-stays, inspect-stays}
 use Rattle.numbers.specs.declared.seen.Seen.{Seen}
 use Rattle.numbers.specs.Places as Places
 use Rattle.crossing.specs.declared.CRecord.{CRecord}

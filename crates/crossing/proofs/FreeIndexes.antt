@@ -18,12 +18,12 @@ use Rattle.model.specs.Changes.{noRoot, rootWord, spare, fits, placed, planted}
 use Rattle.model.specs.Trees.{Tree, leaf, node, count, treeWords}
 use Rattle.model.specs.Window.{window}
 use Rattle.model.specs.Sessions.{step}
-use Rattle.model.proofs.Tests.{cond-holds}
-use Rattle.model.proofs.Shape.{Shaped, shaped, first-in}
-use Rattle.model.proofs.Soundness.{sound-parts}
-use Rattle.model.proofs.CollectedSound.{new-shape}
-use Rattle.model.proofs.Laying.{laid-lays}
-use Rattle.model.proofs.Leaving.{step-left}
+use Rattle.theory.proofs.Tests.{cond-holds}
+use Rattle.theory.proofs.Shape.{Shaped, shaped, first-in}
+use Rattle.theory.proofs.Soundness.{sound-parts}
+use Rattle.theory.proofs.CollectedSound.{new-shape}
+use Rattle.theory.proofs.Laying.{laid-lays}
+use Rattle.theory.proofs.Leaving.{step-left}
 use Rattle.naming.proofs.NamedObjects.{header-below}
 use Rattle.crossing.specs.Crossing.{Narrow, NarrowPlace}
 

@@ -11,8 +11,8 @@ use Rattle.model.specs.declared.Half.{Half}
 use Rattle.model.specs.declared.Half.the-variants.{A, B}
 use Rattle.model.specs.declared.Index.{Index}
 use Rattle.model.specs.declared.Place.the-variants as Place
-use Rattle.model.proofs.Tests.{by-test, same?}
-use Rattle.model.proofs.Laws.{word-from-count, word-past-end, word-itself, word-hidden}
+use Rattle.theory.proofs.Tests.{by-test, same?}
+use Rattle.theory.proofs.Window.{word-from-count, word-past-end, word-itself, word-hidden}
 use Rattle.crossing.specs.declared.CRecord.{CRecord}
 use Rattle.crossing.specs.Numbers.{Given, givenOf, noHalf, numbersOf, recordOf, wordAt}
 use Rattle.crossing.specs.Laws as Law

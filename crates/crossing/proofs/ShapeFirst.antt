@@ -21,7 +21,7 @@ use Rattle.model.specs.Answers.{Outcome, says, refuse}
 use Rattle.model.specs.Calls as Calls
 use Rattle.model.specs.Window.{window}
 use Rattle.model.specs.Sessions.{step}
-use Rattle.model.proofs.Tests.{or-left, or-right}
+use Rattle.theory.proofs.Tests.{or-left, or-right}
 use Rattle.crossing.specs.Crossing.{nowhere}
 
 pub nowhere-bad : (H R : List ℕ) → badShape (stateOf H R nowhere) ≡ true

@@ -13,12 +13,12 @@ use Rattle.model.specs.Headers.{Layout}
 use Rattle.model.specs.Discovery.{packed}
 use Rattle.model.specs.Collection.{Cell, still, cells, cellLeads, settle}
 use Rattle.model.specs.During.{oldWord}
-use Rattle.model.proofs.Tests.{same?}
-use Rattle.model.proofs.Members.{In}
-use Rattle.model.proofs.Visits.{no-some}
-use Rattle.model.proofs.Shape.{other-in}
-use Rattle.model.proofs.Soundness.{SoundTests}
-use Rattle.model.proofs.Middle.{header-outside, distinct-fits}
+use Rattle.theory.proofs.Tests.{same?}
+use Rattle.theory.proofs.Members.{In}
+use Rattle.theory.proofs.Visits.{no-some}
+use Rattle.theory.proofs.Shape.{other-in}
+use Rattle.theory.proofs.Soundness.{SoundTests}
+use Rattle.theory.proofs.Middle.{header-outside, distinct-fits}
 use Rattle.runs.proofs.RunLaws.{Outside}
 use Rattle.engine.proofs.Midway.{Midway}
 

@@ -13,10 +13,10 @@ use Rattle.model.specs.Headers.{Layout, Marks}
 use Rattle.model.specs.Soundness.{sound}
 use Rattle.model.specs.Collection.{live, collected}
 use Rattle.model.specs.Answers.{says}
-use Rattle.model.proofs.Shape.{Shaped}
-use Rattle.model.proofs.Soundness.{SoundTests, sound-parts}
-use Rattle.model.proofs.Order.{order-fits}
-use Rattle.model.proofs.Collected.{live-is}
+use Rattle.theory.proofs.Shape.{Shaped}
+use Rattle.theory.proofs.Soundness.{SoundTests, sound-parts}
+use Rattle.theory.proofs.Order.{order-fits}
+use Rattle.theory.proofs.Collected.{live-is}
 use Rattle.words.proofs.FirstWords.{first-by-length}
 use Rattle.engine.specs.Evacuation.{Emptied, emptied, movedTo, evacuated, SafeEvacuation}
 use Rattle.engine.proofs.End.{safe, leaves, ended-is, free-is}

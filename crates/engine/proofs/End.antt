@@ -12,16 +12,16 @@ use Rattle.model.specs.Headers.{Layout, Marks}
 use Rattle.model.specs.Discovery.{mem, packed}
 use Rattle.model.specs.Collection.{cells, orderAt, live, collected}
 use Rattle.model.specs.During.{during}
-use Rattle.model.proofs.Tests.{by-test, decide}
-use Rattle.model.proofs.Members.{In, Out}
-use Rattle.model.proofs.Shape.{first-in, other-in, halves-cover}
-use Rattle.model.proofs.Soundness.{SoundTests}
-use Rattle.model.proofs.Keeping.{tile}
-use Rattle.model.proofs.Order.{free-in}
-use Rattle.model.proofs.Collected.{new-length, new-old, new-null, new-free, new-text}
-use Rattle.model.proofs.Stage.{stage-kept, stage-length}
-use Rattle.model.proofs.During.{order-heads, order-room, end-word, end-roots, end-record}
-use Rattle.model.proofs.Middle.{halves-ordered, stage-null}
+use Rattle.theory.proofs.Tests.{by-test, decide}
+use Rattle.theory.proofs.Members.{In, Out}
+use Rattle.theory.proofs.Shape.{first-in, other-in, halves-cover}
+use Rattle.theory.proofs.Soundness.{SoundTests}
+use Rattle.theory.proofs.Keeping.{tile}
+use Rattle.theory.proofs.Order.{free-in}
+use Rattle.theory.proofs.Collected.{new-length, new-old, new-null, new-free, new-text}
+use Rattle.theory.proofs.Stage.{stage-kept, stage-length}
+use Rattle.theory.proofs.During.{order-heads, order-room, end-word, end-roots, end-record}
+use Rattle.theory.proofs.Middle.{halves-ordered, stage-null}
 use Rattle.runs.specs.Runs.{cleared}
 use Rattle.runs.proofs.RunLaws.{cleared-length, cleared-inside, cleared-outside}
 use Rattle.engine_scanning.specs.Scanning.{between}

@@ -12,10 +12,10 @@ use Rattle.model.specs.Soundness.{sound}
 use Rattle.model.specs.Collection.{collected}
 use Rattle.model.specs.Answers.{Outcome, says}
 use Rattle.engine.specs.Collecting.{collection}
-use Rattle.model.proofs.Shape.{Shaped}
-use Rattle.model.proofs.Soundness.{sound-parts}
-use Rattle.model.proofs.Collected.{new-roots}
-use Rattle.model.proofs.CollectedSound.{new-shape}
+use Rattle.theory.proofs.Shape.{Shaped}
+use Rattle.theory.proofs.Soundness.{sound-parts}
+use Rattle.theory.proofs.Collected.{new-roots}
+use Rattle.theory.proofs.CollectedSound.{new-shape}
 
 -- from its answer and the check before it, which changed nothing
 pub left-is : (Y : Layout) (h₁ h rs : List ℕ) (q : Record) → h₁ ≡ h → (n : ℕ) (s′ : State)

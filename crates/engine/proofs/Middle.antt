@@ -16,16 +16,16 @@ use Rattle.model.specs.Discovery.{mem, packed}
 use Rattle.model.specs.Soundness.{sound}
 use Rattle.model.specs.Collection.{Cell, still, cells, wordLeads, orderAt, order, live, rename}
 use Rattle.model.specs.During.{oldWord, stage, during}
-use Rattle.model.proofs.Tests.{by-test, decide}
-use Rattle.model.proofs.Members.{In, Out, map-in, position}
-use Rattle.model.proofs.Lists.{getD-map}
-use Rattle.model.proofs.Packed.{packed-grows}
-use Rattle.model.proofs.Shape.{other-in, halves-cover}
-use Rattle.model.proofs.Soundness.{SoundTests, sound-parts}
-use Rattle.model.proofs.Collected.{live-is}
-use Rattle.model.proofs.Stage.{stage-passed, stage-coming, stage-rest, stage-header, stage-kept, stage-length}
-use Rattle.model.proofs.During.{rename-stable, order-heads, order-room, root-found, ended}
-use Rattle.model.proofs.Middle.{halves-ordered, stage-null, order-later, during-still}
+use Rattle.theory.proofs.Tests.{by-test, decide}
+use Rattle.theory.proofs.Members.{In, Out, map-in, position}
+use Rattle.theory.proofs.Lists.{getD-map}
+use Rattle.theory.proofs.Packed.{packed-grows}
+use Rattle.theory.proofs.Shape.{other-in, halves-cover}
+use Rattle.theory.proofs.Soundness.{SoundTests, sound-parts}
+use Rattle.theory.proofs.Collected.{live-is}
+use Rattle.theory.proofs.Stage.{stage-passed, stage-coming, stage-rest, stage-header, stage-kept, stage-length}
+use Rattle.theory.proofs.During.{rename-stable, order-heads, order-room, root-found, ended}
+use Rattle.theory.proofs.Middle.{halves-ordered, stage-null, order-later, during-still}
 use Rattle.engine_scanning.specs.Scanning.{Scan, between, run}
 use Rattle.engine.specs.Evacuation.{Emptied, emptied, movedTo, rooted, scanned}
 use Rattle.engine.specs.Middle.{stateAfter, placeAfter, Middle}

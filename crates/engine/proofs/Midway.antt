@@ -15,15 +15,15 @@ use Rattle.model.specs.Discovery.{mem, packed, wordsBefore}
 use Rattle.model.specs.Soundness.{headers}
 use Rattle.model.specs.Collection.{Cell, still, cells, cellLeads, settle}
 use Rattle.model.specs.During.{oldWord}
-use Rattle.model.proofs.Tests.{by-test, never, decide}
-use Rattle.model.proofs.Members.{In, Out, in-append-left, in-snoc, in-last, in-out, Distinct, distinct-snoc}
-use Rattle.model.proofs.Packed.{wordsBefore-append, wordsBefore-last}
-use Rattle.model.proofs.Objects.{cells-length}
-use Rattle.model.proofs.Shape.{other-in}
-use Rattle.model.proofs.Soundness.{SoundTests}
-use Rattle.model.proofs.During.{settle-stable}
-use Rattle.model.proofs.Middle.{halves-ordered, cell-word, packed-snoc, header-within, header-half, header-outside}
-use Rattle.model.proofs.Middle.{header-alone, distinct-fits}
+use Rattle.theory.proofs.Tests.{by-test, never, decide}
+use Rattle.theory.proofs.Members.{In, Out, in-append-left, in-snoc, in-last, in-out, Distinct, distinct-snoc}
+use Rattle.theory.proofs.Packed.{wordsBefore-append, wordsBefore-last}
+use Rattle.theory.proofs.Objects.{cells-length}
+use Rattle.theory.proofs.Shape.{other-in}
+use Rattle.theory.proofs.Soundness.{SoundTests}
+use Rattle.theory.proofs.During.{settle-stable}
+use Rattle.theory.proofs.Middle.{halves-ordered, cell-word, packed-snoc, header-within, header-half, header-outside}
+use Rattle.theory.proofs.Middle.{header-alone, distinct-fits}
 use Rattle.runs.specs.Runs.{copiedRun, Apart}
 use Rattle.runs.proofs.RunLaws.{Outside, copied-outside, copied-inside, copied-length}
 use Rattle.engine_moving.specs.Moving.{moved}

@@ -13,12 +13,12 @@ use Rattle.model.specs.Discovery.{mem, visit, packed}
 use Rattle.model.specs.Soundness.{headers}
 use Rattle.model.specs.Collection.{Cell, still, value, cells, wordLeads, cellLeads, settle}
 use Rattle.model.specs.During.{oldWord}
-use Rattle.model.proofs.Tests.{same?}
-use Rattle.model.proofs.Members.{In, in-append-right, in-self}
-use Rattle.model.proofs.Visits.{Starts, visit-starts, visit-has}
-use Rattle.model.proofs.Packed.{packed-starts, packed-grows}
-use Rattle.model.proofs.Soundness.{SoundTests}
-use Rattle.model.proofs.Middle.{visit-none, header-within, distinct-fits, cell-header}
+use Rattle.theory.proofs.Tests.{same?}
+use Rattle.theory.proofs.Members.{In, in-append-right, in-self}
+use Rattle.theory.proofs.Visits.{Starts, visit-starts, visit-has}
+use Rattle.theory.proofs.Packed.{packed-starts, packed-grows}
+use Rattle.theory.proofs.Soundness.{SoundTests}
+use Rattle.theory.proofs.Middle.{visit-none, header-within, distinct-fits, cell-header}
 use Rattle.engine_moving.specs.Moving.{renamed, MayRename}
 use Rattle.engine_scanning.specs.Scanning.{Scan, passed, MayPass}
 use Rattle.engine_scanning.proofs.PassingLaws.{passed-header, passed-raw, passed-value}

@@ -15,15 +15,15 @@ use Rattle.model.specs.Objects.{address, index, size}
 use Rattle.model.specs.Discovery.{mem, visit, packed, wordsBefore}
 use Rattle.model.specs.Soundness.{headers}
 use Rattle.model.specs.Collection.{cells, wordLeads, rename}
-use Rattle.model.proofs.Tests.{by-test, never}
-use Rattle.model.proofs.Members.{In, Out}
-use Rattle.model.proofs.Packed.{wordsBefore-last}
-use Rattle.model.proofs.Shape.{other-in}
-use Rattle.model.proofs.Soundness.{SoundTests}
-use Rattle.model.proofs.Values.{address-leads}
-use Rattle.model.proofs.Keeping.{tile}
-use Rattle.model.proofs.Middle.{visit-again, visit-new, visit-none, plain-leads, rename-plain, rename-address}
-use Rattle.model.proofs.Middle.{header-within, distinct-fits}
+use Rattle.theory.proofs.Tests.{by-test, never}
+use Rattle.theory.proofs.Members.{In, Out}
+use Rattle.theory.proofs.Packed.{wordsBefore-last}
+use Rattle.theory.proofs.Shape.{other-in}
+use Rattle.theory.proofs.Soundness.{SoundTests}
+use Rattle.theory.proofs.Values.{address-leads}
+use Rattle.theory.proofs.Keeping.{tile}
+use Rattle.theory.proofs.Middle.{visit-again, visit-new, visit-none, plain-leads, rename-plain, rename-address}
+use Rattle.theory.proofs.Middle.{header-within, distinct-fits}
 use Rattle.engine_moving.specs.declared.Met.the-variants.{Copied, Found}
 use Rattle.engine_moving.specs.Moving.{left, moved, renamed, MayRename}
 use Rattle.engine_moving.proofs.MovingLaws.{relocated-copied, relocated-found, renamed-address, renamed-plain}

@@ -13,14 +13,14 @@ use Rattle.model.specs.Headers.{Layout, Marks}
 use Rattle.model.specs.Discovery.{visit, visits, packed, found}
 use Rattle.model.specs.Soundness.{headers, isValue}
 use Rattle.model.specs.Collection.{Cell, cells, wordLeads, orderAt, rename}
-use Rattle.model.proofs.Tests.{decide}
-use Rattle.model.proofs.Members.{In, in-nil}
-use Rattle.model.proofs.Visits.{visits-starts, visit-has}
-use Rattle.model.proofs.Shape.{other-in}
-use Rattle.model.proofs.Soundness.{SoundTests}
-use Rattle.model.proofs.Values.{leads-address, value-header}
-use Rattle.model.proofs.During.{rename-stable, order-step}
-use Rattle.model.proofs.Middle.{distinct-fits}
+use Rattle.theory.proofs.Tests.{decide}
+use Rattle.theory.proofs.Members.{In, in-nil}
+use Rattle.theory.proofs.Visits.{visits-starts, visit-has}
+use Rattle.theory.proofs.Shape.{other-in}
+use Rattle.theory.proofs.Soundness.{SoundTests}
+use Rattle.theory.proofs.Values.{leads-address, value-header}
+use Rattle.theory.proofs.During.{rename-stable, order-step}
+use Rattle.theory.proofs.Middle.{distinct-fits}
 use Rattle.engine_moving.specs.Moving.{renamed}
 use Rattle.engine_scanning.specs.Scanning.{Scan, between, After, passed, run, MayPass, SafeRun}
 use Rattle.engine.specs.Evacuation.{Emptied, rooted, SafeRoots}

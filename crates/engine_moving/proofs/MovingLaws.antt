@@ -11,7 +11,7 @@ use Rattle.model.specs.Words.{at}
 use Rattle.model.specs.Values.{isAddress}
 use Rattle.model.specs.Headers.{Layout}
 use Rattle.model.specs.Objects.{address, index, size}
-use Rattle.model.proofs.Tests.{by-test}
+use Rattle.theory.proofs.Tests.{by-test}
 use Rattle.runs.specs.Runs.{copiedRun}
 use Rattle.runs.proofs.RunLaws.{copied-length, copied-front}
 use Rattle.engine_moving.specs.declared.Met.the-variants.{Plain, Copied, Found}

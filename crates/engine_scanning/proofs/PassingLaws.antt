@@ -9,7 +9,7 @@ use lib.Seq.{set-getD}
 use borrow.Author.Tests.{eq-eqb, ne-eqb}
 use Rattle.model.specs.Words.{at}
 use Rattle.model.specs.Headers.{Layout}
-use Rattle.model.proofs.Tests.{same?}
+use Rattle.theory.proofs.Tests.{same?}
 use Rattle.engine_moving.specs.declared.Met.the-variants.{Plain}
 use Rattle.engine_moving.specs.Moving.{Left, left, renamed}
 use Rattle.engine_scanning.specs.Scanning.{Scan, After, freed, stored, onward, valuesOf, rawsOf, fieldPassed, passed}

@@ -8,7 +8,7 @@ use mathlib.Core.List.{List}
 use lib.ListN.{length}
 use borrow.Author.Tests.{lt-ltb, le-ltb}
 use Rattle.model.specs.Headers.{Layout}
-use Rattle.model.proofs.Tests.{decide}
+use Rattle.theory.proofs.Tests.{decide}
 use Rattle.engine_scanning.specs.Scanning.{Scan, After, after, passed, run, MayPass, SafeRun}
 use Rattle.engine_scanning.proofs.PassingLaws.{passed-keeps}
 

@@ -1,7 +1,8 @@
--- The tables of cases and limits, together. The checker takes this file first, by its name: a wrong
--- definition is refused by a value that comes out wrong, before it is refused by a proof that no longer fits.
+-- The tables of cases and limits, together. This crate has no other proof: a wrong definition is refused by a value that
+-- comes out wrong, and not by a proof that no longer fits.
 use mathlib.Core.Path.{_≡_}
 use mathlib.Core.List.{map}
+use Rattle.model.specs.declared.Answer.the-variants as Says
 use Rattle.model.specs.Worked as Worked
 use Rattle.model.specs.Worked.{ran, expected}
 use Rattle.model.specs.CodeWords as CodeWords
@@ -14,6 +15,7 @@ use Rattle.model.specs.Edges as Edges
 -- the papers' cases, each clause of "names an object" and of "sound" broken alone, each call, and each limit
 pub record AllCases : Type 0 where
   pub worked : map ran Worked.cases ≡ map expected Worked.cases
+  pub begun : Worked.begun .answer ≡ Says.Done
   pub coded : map ran CodeWords.codes ≡ map expected CodeWords.codes
   pub spelt : map ran TextCases.writer ≡ map expected TextCases.writer
   pub seen : map ran TextCases.reader ≡ map expected TextCases.reader
@@ -25,6 +27,7 @@ pub record AllCases : Type 0 where
 pub all-cases : AllCases
 all-cases = record {
   worked = Worked.worked;
+  begun = Worked.freshSays;
   coded = CodeWords.coded;
   spelt = TextCases.spelt;
   seen = TextCases.seen;

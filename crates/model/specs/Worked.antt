@@ -11,6 +11,7 @@ use Rattle.model.specs.declared.Half.{Half}
 use Rattle.model.specs.declared.Half.the-variants.{A, B}
 use Rattle.model.specs.declared.Kind.the-variants.{Traced, Untraced}
 use Rattle.model.specs.declared.Call.{Call}
+use Rattle.model.specs.declared.Answer.the-variants as Says
 use Rattle.model.specs.declared.Call.the-variants as Ask
 use Rattle.model.specs.declared.Told.{Told}
 use Rattle.model.specs.Words.{State, stateOf, withFree}
@@ -21,7 +22,7 @@ use Rattle.model.specs.Objects.{names}
 use Rattle.model.specs.Discovery.{mem, visit, visits, packed, wordsBefore, found}
 use Rattle.model.specs.Soundness.{tiles, headersFrom, isValue, fieldsAreValues, sound}
 use Rattle.model.specs.Collection.{wordLeads, orderAt, live, rename, copied}
-use Rattle.model.specs.Answers.{refuse, tells, tellsInteger, told}
+use Rattle.model.specs.Answers.{Outcome, refuse, tells, tellsInteger, told}
 use Rattle.model.specs.Changes.{placed, laid, planted}
 use Rattle.model.specs.Calls.{fresh, freshRecord, check, collect, allocate, setInteger, setNull, setCode, copy, load, store}
 use Rattle.model.specs.Calls.{rawRead, rawWrite, same, inspect, wordForm, write, read}
@@ -131,9 +132,12 @@ oneNull = empty 0
 abbrev pub p5With : ℕ → ℕ → State
 p5With v w = state A 7 p5 (v ∷ w ∷ [])
 
--- what fresh leaves of words that are no heap, and one null root
+-- fresh on words that are no heap, and one null root; and what it leaves
+abbrev pub begun : Outcome State
+begun = fresh (state B 12 (replicate 17 7) (0 ∷ []))
+
 abbrev pub freshly : State
-freshly = fresh (state B 12 (replicate 17 7) (0 ∷ [])) .left
+freshly = begun .left
 
 -- an integer is set into root 0, whose word is then w, and inspected there
 abbrev pub integer : ℤ → ℕ → Case
@@ -185,3 +189,8 @@ cases =
 pub worked : map ran cases ≡ map expected cases
 unfolding ran
 worked = refl
+
+-- fresh's answer by its case: the numbers of "done" are those of "no" too
+pub freshSays : begun .answer ≡ Says.Done
+unfolding ran
+freshSays = refl

@@ -17,9 +17,9 @@ use Rattle.model.specs.Limits.{maxWords}
 use Rattle.model.specs.Headers.{Layout, Adjacent}
 use Rattle.model.specs.Objects.{index, size, kind, fieldCount, fieldIndex, names}
 use Rattle.model.specs.Shape.{badShape}
-use Rattle.model.proofs.Tests.{by-test, and-both}
-use Rattle.model.proofs.Shape.{shaped, first-in}
-use Rattle.model.proofs.WordSorts.{parts-address}
+use Rattle.theory.proofs.Tests.{by-test, and-both}
+use Rattle.theory.proofs.Shape.{shaped, first-in}
+use Rattle.theory.proofs.WordSorts.{parts-address}
 use Rattle.model.specs.Calls.{isOfKind}
 use Rattle.words.proofs.ShapeTests.{same-test}
 use Rattle.naming.specs.declared.Field.the-variants.{At, Refused}

@@ -25,7 +25,7 @@ use Rattle.naming.specs.declared.Field.the-variants.{At, Refused}
 use Rattle.naming.specs.Named.{fieldOf}
 use Rattle.objects.specs.Reached.{reached}
 use Rattle.naming.proofs.NamedObjects.{free-in-heap, named-ends}
-use Rattle.model.proofs.Refusing.{said}
+use Rattle.theory.proofs.Refusing.{said}
 use Rattle.words.proofs.RootNumbers.{both-below}
 
 -- what a call comes to that does `next` with the index of its field

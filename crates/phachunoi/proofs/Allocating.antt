@@ -15,7 +15,7 @@ use Rattle.model.specs.Headers.{tuple}
 use Rattle.model.specs.Answers.{says, outcomeOf, told}
 use Rattle.model.specs.Calls.{allocate}
 use Rattle.model.specs.Sessions.{step}
-use Rattle.model.proofs.Tests.{never}
+use Rattle.theory.proofs.Tests.{never}
 use Rattle.placing.specs.Placing.{atOnce}
 use Rattle.placing.proofs.PlacingLaws.{at-once-shaped}
 use Rattle.crossing.specs.declared.CRecord.{CRecord}

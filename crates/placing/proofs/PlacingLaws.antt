@@ -19,8 +19,8 @@ use Rattle.model.specs.Objects.{address}
 use Rattle.model.specs.Answers.{says, refuse}
 use Rattle.model.specs.Changes.{spare, placed}
 use Rattle.model.specs.Calls as Calls
-use Rattle.model.proofs.Tests.{never, or-none}
-use Rattle.model.proofs.Shape.{Shaped, shaped, good-length, first-in}
+use Rattle.theory.proofs.Tests.{never, or-none}
+use Rattle.theory.proofs.Shape.{Shaped, shaped, good-length, first-in}
 use Rattle.runs.specs.Runs.{cleared}
 use Rattle.runs.proofs.RunLaws.{cleared-sets}
 use Rattle.placing.specs.Placing.{MayPlace, MaySpare, spareOf, atOnce}

@@ -13,7 +13,7 @@ use Rattle.model.specs.Limits.{maxInteger}
 use Rattle.model.specs.Values.{inRange}
 use Rattle.model.specs.Trees.{Forest, Tree, leaf, node, treeWords}
 use Rattle.model.specs.Reading.{Parsed, tree, broken, parsed}
-use Rattle.model.proofs.ReadJudged.{parsed-text}
+use Rattle.theory.proofs.ReadJudged.{parsed-text}
 use Rattle.reader_judging.specs.declared.Judged.{Judged}
 use Rattle.reader_judging.specs.declared.Judged.the-variants.{Integer, Tuple, Refused}
 use Rattle.reader_judging.specs.Judging.{judgedOf}

@@ -10,8 +10,8 @@ use Rattle.model.specs.Headers.{tuple}
 use Rattle.model.specs.Objects.{address}
 use Rattle.model.specs.Trees.{Forest, node}
 use Rattle.model.specs.Changes.{placed, planted}
-use Rattle.model.proofs.Shape.{Shaped, first-in}
-use Rattle.model.proofs.ReadJudged.{parsed-text}
+use Rattle.theory.proofs.Shape.{Shaped, first-in}
+use Rattle.theory.proofs.ReadJudged.{parsed-text}
 use Rattle.placing.specs.Placing.{spareOf}
 use Rattle.reader_placing.specs.Laying.{LaysOut, LaidFrom}
 use Rattle.reader.specs.Planting.{Stands, MayPlant}

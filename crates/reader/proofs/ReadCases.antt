@@ -23,8 +23,8 @@ use Rattle.model.specs.Answers.{Outcome, says, refuse}
 use Rattle.model.specs.Changes.{spare, withRoot, planted}
 use Rattle.model.specs.Calls as Calls
 use Rattle.model.specs.Sessions.{step}
-use Rattle.model.proofs.ReadJudged.{parsed-text}
-use Rattle.model.proofs.Unseen.{lending, lent-too}
+use Rattle.theory.proofs.ReadJudged.{parsed-text}
+use Rattle.theory.proofs.Unseen.{lending, lent-too}
 use Rattle.placing.specs.Placing.{spareOf}
 use Rattle.reader.specs.Planting.{Stands, retried}
 

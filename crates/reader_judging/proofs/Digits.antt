@@ -12,7 +12,7 @@ use Rattle.model.specs.declared.Refusal.the-variants as Why
 use Rattle.model.specs.Texts.{maxDepth}
 use Rattle.model.specs.Trees.{leaf}
 use Rattle.model.specs.Reading.{Open, outside, paren, brace, Mode, digits, whole, Next, go, bad, isDigit, signed, mostDigits, next, onward}
-use Rattle.model.proofs.Tests.{by-test, decide}
+use Rattle.theory.proofs.Tests.{by-test, decide}
 use Rattle.reader_judging.specs.Places.{rest, ofDigits, firstDigit}
 use Rattle.reader_judging.proofs.Steps.{step-to, at-end, digit-bounds, follow-digit}
 

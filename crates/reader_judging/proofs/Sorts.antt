@@ -16,7 +16,7 @@ use Rattle.model.specs.Trees.{Tree, leaf, treeWords}
 use Rattle.model.specs.ReadFaults as Faults
 use Rattle.model.specs.Reading.{Open, height, Mode, start, opened, Next, go, bad, signed}
 use Rattle.model.specs.Reading.{begin, onward, stopped, Parsed, broken}
-use Rattle.model.proofs.Tests.{decide, or-cases}
+use Rattle.theory.proofs.Tests.{decide, or-cases}
 use Rattle.reader_judging.specs.Places.{rest, negative, Numeral, whyOf, Stuck, Whole, Reads}
 use Rattle.reader_judging.proofs.Steps.{step-to, step-bad, at-end}
 

@@ -12,7 +12,7 @@ use Rattle.model.specs.declared.Refusal.the-variants as Why
 use Rattle.model.specs.Texts.{maxDepth}
 use Rattle.model.specs.Trees.{Tree, node, end, count, forestWords, treeWords}
 use Rattle.model.specs.Reading.{Open, paren, height, forestOf, noneYet, start, opened, whole, Next, go, bad, follow, broken}
-use Rattle.model.proofs.Tests.{by-test, decide, same?}
+use Rattle.theory.proofs.Tests.{by-test, decide, same?}
 use Rattle.reader_judging.specs.Places.{rest, whyOf, Room, Closes, Whole, Reads}
 use Rattle.reader_judging.proofs.Steps.{step-to, at-end}
 use Rattle.reader_judging.proofs.Forests.{count-more, words-more, none-counts, some-yet, not-none-yet}

@@ -16,7 +16,7 @@ use Rattle.model.specs.Texts.{maxDepth}
 use Rattle.model.specs.Trees.{Tree, leaf, node, treeWords}
 use Rattle.model.specs.ReadFaults as Faults
 use Rattle.model.specs.Reading.{outside, start, whole, Next, go, signed, mostDigits, Parsed, tree, broken, parsed}
-use Rattle.model.proofs.Tests.{same?, never}
+use Rattle.theory.proofs.Tests.{same?, never}
 use Rattle.reader_judging.specs.declared.Judged.{Judged}
 use Rattle.reader_judging.specs.declared.Judged.the-variants.{Integer, Tuple, Refused}
 use Rattle.reader_judging.specs.Judging.{judgedOf}

@@ -7,7 +7,7 @@ use mathlib.Core.List.{List, [], _∷_, _++_}
 use mathlib.Core.Logic.{⊎-elim}
 use lib.Dec.{ltb, leb}
 use borrow.Author.Tests.{lt-ltb, le-ltb, le-leb, lt-leb}
-use Rattle.model.proofs.Tests.{decide}
+use Rattle.theory.proofs.Tests.{decide}
 use lib.ListN.{length, getD, drop}
 use lib.Seq.{drop-drop, drop-append-seam}
 

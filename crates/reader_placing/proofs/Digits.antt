@@ -9,7 +9,7 @@ use lib.ListN.{length, getD, drop}
 use borrow.Author.Tests.{lt-ltb, le-ltb, le-leb, leb-true}
 use Rattle.model.specs.Texts.{digit, digits, digitsTo}
 use Rattle.model.specs.Reading.{isDigit}
-use Rattle.model.proofs.Tests.{decide, never, and-both, both-and}
+use Rattle.theory.proofs.Tests.{decide, never, and-both, both-and}
 use Rattle.reader_placing.specs.Numerals.{DigitsAt, DigitsRead}
 use Rattle.reader_placing.proofs.Bytes.{first-of}
 

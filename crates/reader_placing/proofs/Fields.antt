@@ -17,7 +17,7 @@ use Rattle.model.specs.Trees.{Forest, end, leafThen, nodeThen, Tree, leaf, node
 use Rattle.model.specs.Texts.{enclosed}
 use Rattle.model.specs.Reading.{isDigit}
 use Rattle.model.specs.ReadFaults as Faults
-use Rattle.model.proofs.Tests.{never}
+use Rattle.theory.proofs.Tests.{never}
 use Rattle.reader_placing.specs.Numerals.{IntegerAt, IntegerRead}
 use Rattle.reader_placing.specs.Counting.{forestCounts, treeCounts}
 use Rattle.reader_placing.specs.Placing.{placedIn, objectAt, valueIn, openerWidth, Room, TupleAt, TupleLaid, ValueAt, ValueLaid}

@@ -14,8 +14,8 @@ use Rattle.model.specs.Headers.{tuple}
 use Rattle.model.specs.Objects.{address}
 use Rattle.model.specs.Trees.{Forest, end, leafThen, nodeThen, node, count, forestWords, treeText}
 use Rattle.model.specs.Changes.{appended, laid, withWord}
-use Rattle.model.proofs.Tests.{decide, same?}
-use Rattle.model.proofs.Lists.{sets-before, sets-past}
+use Rattle.theory.proofs.Tests.{decide, same?}
+use Rattle.theory.proofs.Lists.{sets-before, sets-past}
 use Rattle.reader_placing.specs.Counting.{treeCounts, Countable, CountsKept}
 use Rattle.reader_placing.specs.Placing.{placedIn, objectAt, TupleAt, TupleLaid}
 use Rattle.reader_placing.specs.Laying.{LaysOut, LaidFrom}

@@ -11,7 +11,7 @@ use borrow.Author.Tests.{lt-ltb, le-ltb, leb-true}
 use Rattle.model.specs.Limits.{maxInteger}
 use Rattle.model.specs.Texts.{digit, digits, digitsTo}
 use Rattle.model.specs.Reading.{isDigit}
-use Rattle.model.proofs.Tests.{decide, never}
+use Rattle.theory.proofs.Tests.{decide, never}
 use Rattle.reader_placing.specs.Numerals.{DigitsAt, DigitsRead, IntegerAt, IntegerRead}
 use Rattle.reader_placing.proofs.Bytes.{first-of}
 use Rattle.reader_placing.proofs.Digits.{AllDigits, digits-all}

@@ -13,7 +13,7 @@ use Rattle.model.specs.Texts.{digits, joined, enclosed}
 use Rattle.model.specs.Trees.{Forest, end, leafThen, nodeThen, Tree, leaf, node, then, count, forestWords, treeWords, texts, treeText, ForestFits, TreeFits}
 use Rattle.model.specs.Reading.{isDigit}
 use Rattle.model.specs.ReadFaults as Faults
-use Rattle.model.proofs.Tests.{never, and-both}
+use Rattle.theory.proofs.Tests.{never, and-both}
 use Rattle.reader_placing.specs.Counting.{forestCounts, treeCounts}
 use Rattle.reader_placing.proofs.Digits.{AllDigits, digits-all}
 use Rattle.reader_placing.proofs.Signs.{some-digit}

@@ -12,7 +12,7 @@ use Rattle.model.specs.Texts.{integerText, digits, joined, enclosed}
 use Rattle.model.specs.Trees.{Forest, end, leafThen, nodeThen, node, then, count, texts, treeText}
 use Rattle.model.specs.Reading.{isDigit}
 use Rattle.model.specs.ReadFaults as Faults
-use Rattle.model.proofs.Tests.{and-both}
+use Rattle.theory.proofs.Tests.{and-both}
 use Rattle.reader_placing.specs.Placing.{openerWidth}
 use Rattle.reader_placing.proofs.Bytes.{first-of}
 use Rattle.reader_placing.proofs.Signs.{begins-digit}

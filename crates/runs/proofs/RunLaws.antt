@@ -14,7 +14,7 @@ use borrow.Author.Tests.{ne-eqb}
 use Rattle.model.specs.Words.{at}
 use Rattle.model.specs.Values.{isNull}
 use Rattle.model.specs.Soundness.{all}
-use Rattle.model.proofs.Tests.{same?}
+use Rattle.theory.proofs.Tests.{same?}
 use Rattle.runs.specs.Runs.{run, cleared, copiedRun, Apart}
 
 -- ---- what lies outside a run

@@ -17,9 +17,9 @@ use Rattle.model.specs.Shape.{badShape}
 use Rattle.model.specs.Answers.{Outcome, says, refuse, told}
 use Rattle.model.specs.Changes.{rootWord}
 use Rattle.model.specs.Calls.{inspect}
-use Rattle.model.proofs.Deciding.{named-address, names-decides}
-use Rattle.model.proofs.Tests.{never}
-use Rattle.model.proofs.WordSorts.{address-no-code}
+use Rattle.theory.proofs.Deciding.{named-address, names-decides}
+use Rattle.theory.proofs.Tests.{never}
+use Rattle.theory.proofs.WordSorts.{address-no-code}
 use Rattle.numbers.specs.Places.{seenOf}
 use Rattle.naming.proofs.NamedObjects.{header-below}
 use Rattle.views.specs.declared.contents.Sort.{Sort}

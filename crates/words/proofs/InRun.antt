@@ -6,7 +6,7 @@ use mathlib.Core.Logic.{⊎-elim}
 use mathlib.Core.Bool.{true, _&&_}
 use lib.Dec.{leb, ltb}
 use borrow.Author.Tests.{lt-ltb, le-ltb, le-leb, lt-leb, leb-true, ltb-true}
-use Rattle.model.proofs.Tests.{decide, and-both}
+use Rattle.theory.proofs.Tests.{decide, and-both}
 
 -- the difference is below the count just where the index is one of the run: below the first it wraps beyond any count
 pub run-tests : (at first count difference : ℕ) → (difference + first) % 2 ^ 64 ≡ at → difference < 2 ^ 64

@@ -6,7 +6,7 @@ use mathlib.Core.Logic.{⊎-elim}
 use mathlib.Core.Bool.{false, _||_}
 use lib.Dec.{leb}
 use borrow.Author.Tests.{leb-false, le-leb, lt-leb}
-use Rattle.model.proofs.Tests.{decide, or-none}
+use Rattle.theory.proofs.Tests.{decide, or-none}
 
 pub both-below : (roots one other : ℕ) → (leb roots one || leb roots other) ≡ false → (one < roots) × (other < roots)
 both-below roots one other h =

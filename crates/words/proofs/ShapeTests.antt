@@ -6,7 +6,7 @@ use mathlib.Core.Logic.{⊎-elim}
 use mathlib.Core.Bool.{Bool, not, _||_, _&&_}
 use lib.Dec.{leb, ltb}
 use borrow.Author.Tests.{lt-ltb, le-ltb, le-leb, lt-leb, ne-eqb}
-use Rattle.model.proofs.Tests.{decide}
+use Rattle.theory.proofs.Tests.{decide}
 use Rattle.model.specs.Limits.{maxHalf, maxWords}
 use Rattle.model.specs.Shape.{badLength}
 

@@ -25,12 +25,12 @@ use Rattle.model.specs.Texts.{Form, asInteger, asTuple, textless, Piece, maxDep
 use Rattle.model.specs.Texts.{spelled, over, writes}
 use Rattle.model.specs.Changes.{rootWord}
 use Rattle.model.specs.Calls.{wordForm, rootSpelled, write}
-use Rattle.model.proofs.Headers.{tuple-adjacent}
-use Rattle.model.proofs.Tests.{never}
-use Rattle.model.proofs.Deciding.{named-address, names-decides}
-use Rattle.model.proofs.WordSorts.{address-parts, address-no-code}
-use Rattle.model.proofs.Refusing.{applies, passes}
-use Rattle.model.proofs.Texts.{whole-fits, textless-same, broken-fault, pieces-faults}
+use Rattle.theory.proofs.Headers.{tuple-adjacent}
+use Rattle.theory.proofs.Tests.{never}
+use Rattle.theory.proofs.Deciding.{named-address, names-decides}
+use Rattle.theory.proofs.WordSorts.{address-parts, address-no-code}
+use Rattle.theory.proofs.Refusing.{applies, passes}
+use Rattle.theory.proofs.Texts.{whole-fits, textless-same, broken-fault, pieces-faults}
 use Rattle.naming.specs.Named.{FreeInHeap}
 use Rattle.naming.proofs.NamedObjects.{names-tests, free-in-heap}
 use Rattle.writer_measuring.specs.Measured.{limit, numberOf, whyOf, measured}

@@ -9,7 +9,7 @@ use lib.ListN.{length, drop, getD, length-take, length-drop, length-map, drop-of
 use lib.Seq.{drop-cons, getD-take, getD-drop}
 use borrow.Author.Tests.{eq-eqb, ne-eqb}
 use Rattle.model.specs.Texts.{opener, comma, Piece, byte, joined, enclosed}
-use Rattle.model.proofs.Tests.{same?}
+use Rattle.theory.proofs.Tests.{same?}
 use Rattle.writer_measuring.specs.Forms.{fieldsAt}
 use Rattle.writer_measuring.specs.Tuples.{noFields, lead, leadBytes, closerOf, fromField}
 

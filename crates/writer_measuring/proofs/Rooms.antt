@@ -9,7 +9,7 @@ use borrow.Author.Tests.{lt-ltb, le-ltb}
 use Rattle.model.specs.declared.Refusal.{Refusal}
 use Rattle.model.specs.declared.Refusal.the-variants as Why
 use Rattle.model.specs.Texts.{Piece, byte, fault, Spelled, whole, broken, behind, spelled}
-use Rattle.model.proofs.Tests.{decide}
+use Rattle.theory.proofs.Tests.{decide}
 use Rattle.writer_measuring.specs.Measured.{limit, numberOf, measured, spent}
 
 pub number-above : (k : Refusal) → limit ≤ numberOf k

@@ -15,7 +15,7 @@ use Rattle.model.specs.Headers.{tuple}
 use Rattle.model.specs.Objects.{index, fieldCount, isTraced}
 use Rattle.model.specs.Texts.{Form, asTuple, Piece, byte, fault, integerText, tuplePieces, valuePieces, enclosed}
 use mathlib.Core.Logic.{⊎-elim}
-use Rattle.model.proofs.Tests.{by-test, and-both}
+use Rattle.theory.proofs.Tests.{by-test, and-both}
 use Rattle.writer_measuring.specs.Forms.{namedIn, whyUnnamed, textlessNumber, fieldsAt, formIn}
 use Rattle.writer_measuring.specs.Measured.{numberOf, measured, spent}
 use Rattle.writer_measuring.specs.Tuples.{objectIn}

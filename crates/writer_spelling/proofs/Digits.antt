@@ -9,7 +9,7 @@ use lib.Seq.{sets, set-comm}
 use borrow.Author.Tests.{lt-ltb, le-ltb}
 use Rattle.model.specs.Values.{untag}
 use Rattle.model.specs.Texts.{digits, digitsTo, integerText, byte}
-use Rattle.model.proofs.Tests.{decide}
+use Rattle.theory.proofs.Tests.{decide}
 use Rattle.writer_measuring.specs.Numerals.{padded}
 use Rattle.writer_measuring.proofs.Digits.{length-padded, length-digits, unsigned, signed}
 use Rattle.writer_spelling.specs.Going.{reached, goes}

@@ -7,7 +7,7 @@ use mathlib.Core.List.{[], _∷_}
 use lib.ListN.{length}
 use borrow.Author.Tests.{eq-eqb, ne-eqb}
 use Rattle.model.specs.Texts.{opener, comma, oneOpener}
-use Rattle.model.proofs.Tests.{same?}
+use Rattle.theory.proofs.Tests.{same?}
 use Rattle.writer_measuring.specs.Tuples.{lead, leadBytes}
 use Rattle.writer_measuring.proofs.Leads.{length-lead}
 

@@ -10,7 +10,7 @@ use Rattle.model.specs.Values.{isOdd, untag}
 use Rattle.model.specs.Headers.{tuple}
 use Rattle.model.specs.Objects.{index, isTraced}
 use Rattle.model.specs.Texts.{Piece, integerText, valuePieces}
-use Rattle.model.proofs.Tests.{by-test}
+use Rattle.theory.proofs.Tests.{by-test}
 use Rattle.writer_measuring.specs.Forms.{namedIn, formIn}
 use Rattle.writer_measuring.proofs.Sorts.{odd-pieces, unnamed-pieces, untraced-pieces, deep-pieces, Told}
 use Rattle.writer_spelling.specs.Going.{goes, Arrives}

@@ -11,7 +11,7 @@ use lib.Seq.{sets}
 use borrow.Author.Tests.{le-leb, lt-leb}
 use Rattle.model.specs.declared.Refusal.{Refusal}
 use Rattle.model.specs.Texts.{Piece, byte, fault, Spelled, whole, broken, behind, spelled}
-use Rattle.model.proofs.Tests.{decide}
+use Rattle.theory.proofs.Tests.{decide}
 use Rattle.writer_spelling.specs.Going.{Walked, reached, stopped, goes, andThen, Arrives}
 
 pub one-byte : (b : ℕ) (ps : List Piece) (at : ℕ) (t : List ℕ) → at < length t

@@ -5,8 +5,8 @@ use native.Mathlib.Omega.{arith}
 use Rattle.model.specs.Headers.{tuple}
 use Rattle.model.specs.Words.{State, stateOf}
 use Rattle.model.specs.Shape.{badShape}
-use Rattle.model.proofs.Shape as Shape
-use Rattle.model.proofs.Refusing.{said}
+use Rattle.theory.proofs.Shape as Shape
+use Rattle.theory.proofs.Refusing.{said}
 use Rattle.allocator.proofs.AllocateCases.{allocate-shape, allocate-root, allocate-count, allocate-retry}
 use Rattle.placing.proofs.PlacingLaws.{allocate-now, may-spare, may-place}
 use borrow.Author.Needs.{needs}

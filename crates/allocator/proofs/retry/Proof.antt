@@ -6,7 +6,7 @@ use Rattle.model.specs.Headers.{tuple}
 use Rattle.model.specs.Words.{State, stateOf}
 use Rattle.model.specs.Soundness.{sound}
 use Rattle.model.specs.Collection.{collected}
-use Rattle.model.proofs.Refusing.{said}
+use Rattle.theory.proofs.Refusing.{said}
 use Rattle.engine.proofs.Left.{left-is, left-shaped, left-roots}
 use Rattle.allocator.proofs.AllocateCases.{retried-damaged, retried-room, retried-done}
 use Rattle.placing.proofs.PlacingLaws.{may-spare, may-place}

@@ -8,7 +8,7 @@ use borrow.Author.Tests.{not-true, not-false}
 use Rattle.model.specs.Headers.{tuple}
 use Rattle.model.specs.Objects.{fieldCount, size}
 use Rattle.model.specs.Soundness.{all, tiles, headersFrom}
-use Rattle.model.proofs.Walks.{tiles-turn, tile-within, all-passed, all-failed, all-ended}
+use Rattle.theory.proofs.Walks.{tiles-turn, tile-within, all-passed, all-failed, all-ended}
 use Rattle.checker_marks.specs.Marks.{fieldsAreValuesByMarks, headersOf}
 use Rattle.checker_marks.proofs.Turns.{fields-untraced, fields-traced}
 use Rattle.checker.proofs.all_fields_are_values.Statement.{statement}

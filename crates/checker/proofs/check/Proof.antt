@@ -4,7 +4,7 @@ use mathlib.Core.Bool.{false}
 use Rattle.model.specs.Headers.{tuple}
 use Rattle.model.specs.Words.{State, stateOf}
 use Rattle.model.specs.Shape.{badShape}
-use Rattle.model.proofs.Refusing.{said}
+use Rattle.theory.proofs.Refusing.{said}
 use Rattle.checker.proofs.Returns.{check-refused, check-sound, check-unsound}
 use borrow.Author.Needs.{needs}
 use Rattle.checker.proofs.check.Statement.{statement}

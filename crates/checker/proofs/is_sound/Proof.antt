@@ -7,7 +7,7 @@ use borrow.Author.Tests.{not-true, not-false}
 use Rattle.model.specs.Headers.{tuple}
 use Rattle.model.specs.Shape.{badShape}
 use Rattle.model.specs.Words.{State, stateOf, halfWords}
-use Rattle.model.proofs.Shape as Shape
+use Rattle.theory.proofs.Shape as Shape
 use Rattle.checker_marks.specs.Marks.{partOf, isZeroAround}
 use Rattle.checker.proofs.Returns.{unsound-shape, part-halves, part-fits, unsound-around, sound-used}
 use borrow.Author.Needs.{needs}

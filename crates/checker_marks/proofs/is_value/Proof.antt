@@ -2,7 +2,7 @@
 use mathlib.Core.Bool.{true}
 use mathlib.Core.Path.{_≡_, sym, _∙_}
 use native.Mathlib.Omega.{arith}
-use Rattle.model.proofs.Headers.{tuple-adjacent}
+use Rattle.theory.proofs.Headers.{tuple-adjacent}
 use borrow.Author.Needs.{needs}
 use borrow.Author.Tests.{not-true, not-false}
 use Rattle.checker_marks.proofs.Turns.{inPart, value-odd, value-askew, value-null, value-outside, value-inside, mark-within}

@@ -1,6 +1,6 @@
 -- `engine::collect_sound` meets its contract: the evacuation of a sound heap leaves what `collected` says.
 use native.Mathlib.Omega.{arith}
-use Rattle.model.proofs.Headers.{tuple-lawful}
+use Rattle.theory.proofs.Headers.{tuple-lawful}
 use Rattle.engine.proofs.Contract.{shape, old-low, may-evacuate, end-low, end-high, collect-is}
 use borrow.Author.Needs.{needs}
 use Rattle.engine.proofs.collect_sound.Statement.{statement}

@@ -7,7 +7,7 @@ use lib.Dec.{leb, ltb}
 use mathlib.Core.Bool.{_&&_}
 use mathlib.Core.List.{List, []}
 use Rattle.model.specs.Words.{State, stateOf, firstWord, free}
-use Rattle.model.proofs.Headers.{tuple-adjacent}
+use Rattle.theory.proofs.Headers.{tuple-adjacent}
 use Rattle.words.proofs.FirstWords.{first-by-length}
 use Rattle.words.proofs.InRun.{in-run}
 use Rattle.naming.proofs.NamedObjects.{names-tests}

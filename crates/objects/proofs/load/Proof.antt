@@ -4,7 +4,7 @@ use mathlib.Core.Path.{refl}
 use Rattle.model.specs.declared.Kind.the-variants.{Traced}
 use Rattle.model.specs.Headers.{tuple}
 use Rattle.model.specs.Words.{State, stateOf}
-use Rattle.model.proofs.Refusing.{said}
+use Rattle.theory.proofs.Refusing.{said}
 use Rattle.objects.proofs.ReachedFields.{Reaches, within, by-field, by-refusal, load-reached}
 use borrow.Author.Needs.{needs}
 use Rattle.objects.proofs.load.Statement.{statement}

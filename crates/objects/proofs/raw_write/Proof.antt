@@ -3,7 +3,7 @@ use native.Mathlib.Omega.{arith}
 use Rattle.model.specs.declared.Kind.the-variants.{Untraced}
 use Rattle.model.specs.Headers.{tuple}
 use Rattle.model.specs.Words.{State, stateOf}
-use Rattle.model.proofs.Refusing.{said}
+use Rattle.theory.proofs.Refusing.{said}
 use Rattle.objects.proofs.ReachedFields.{Reaches, within, by-field, by-refusal, raw-write-reached, written}
 use borrow.Author.Needs.{needs}
 use Rattle.objects.proofs.raw_write.Statement.{statement}

@@ -2,7 +2,7 @@
 use native.Mathlib.Omega.{arith}
 use mathlib.Core.Path.{_≡_}
 use Rattle.model.specs.Words.{halfWordsOf, firstOf}
-use Rattle.model.proofs.Shape.{first-most}
+use Rattle.theory.proofs.Shape.{first-most}
 use Rattle.words.proofs.FirstWords.{first-by-length}
 use borrow.Author.Needs.{needs}
 use Rattle.placing.proofs.spare_of.Statement.{statement}

@@ -4,7 +4,7 @@ use native.Mathlib.Omega.{arith}
 use denote.Ref.{now}
 use Rattle.model.specs.Headers.{tuple}
 use Rattle.model.specs.Words.{State, stateOf, withText}
-use Rattle.model.proofs.Shape as Shape
+use Rattle.theory.proofs.Shape as Shape
 use Rattle.placing.proofs.PlacingLaws.{may-spare}
 use Rattle.reader.proofs.ReadCases.{room-now, room-later}
 use Rattle.reader.proofs.Plants.{may-plant}

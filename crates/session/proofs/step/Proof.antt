@@ -11,7 +11,7 @@ use Rattle.model.specs.Words.{State, stateOf, withText}
 use Rattle.model.specs.Headers.{tuple}
 use Rattle.model.specs.Answers.{Outcome}
 use Rattle.model.specs.Sessions.{step}
-use Rattle.model.proofs.Unseen.{seesText, lending, lent-too}
+use Rattle.theory.proofs.Unseen.{seesText, lending, lent-too}
 use borrow.Author.Needs.{needs}
 use Rattle.session.proofs.step.Statement.{statement}
 use Rattle.session.proofs.step.Tie as tie

@@ -2,7 +2,7 @@
 use native.Mathlib.Omega.{arith}
 use mathlib.Core.Path.{sym}
 use borrow.Author.Needs.{needs}
-use Rattle.model.proofs.Laws.{word-from-count, word-past-end, word-itself, word-hidden}
+use Rattle.theory.proofs.Window.{word-from-count, word-past-end, word-itself, word-hidden}
 use Rattle.window.proofs.word_at.Statement.{statement}
 use Rattle.window.proofs.word_at.Tie as tie
 

@@ -11,7 +11,7 @@ use Rattle.model.specs.declared.Answer.the-variants as Says
 use Rattle.model.specs.Words.{State, stateOf, withText, firstWord, free}
 use Rattle.model.specs.Shape.{badShape}
 use Rattle.model.specs.Answers.{says}
-use Rattle.model.proofs.Shape.{shaped}
+use Rattle.theory.proofs.Shape.{shaped}
 use Rattle.words.proofs.FirstWords.{first-by-length}
 use Rattle.naming.proofs.NamedObjects.{free-in-heap}
 use Rattle.writer_measuring.specs.Measured.{limit}

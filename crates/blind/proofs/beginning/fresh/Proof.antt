@@ -2,7 +2,7 @@
 use mathlib.Core.Path.{sym, _∙_}
 use Rattle.model.specs.Words.{State, stateOf}
 use Rattle.model.specs.Calls as Calls
-use Rattle.model.proofs.Refusing.{said, applies}
+use Rattle.theory.proofs.Refusing.{said, applies}
 use Rattle.blind.proofs.FreshHeap.{fresh-done}
 use borrow.Author.Needs.{needs}
 use Rattle.blind.proofs.beginning.fresh.Statement.{statement}

@@ -7,7 +7,7 @@ use lib.ListN.{length}
 use Rattle.model.specs.Words.{State, stateOf}
 use Rattle.model.specs.Shape.{badShape}
 use Rattle.model.specs.Calls.{setCode}
-use Rattle.model.proofs.Refusing.{said, applies, passes}
+use Rattle.theory.proofs.Refusing.{said, applies, passes}
 use borrow.Author.Needs.{needs}
 use Rattle.blind.proofs.code.set_code.Statement.{statement}
 use Rattle.blind.proofs.code.set_code.Tie as tie

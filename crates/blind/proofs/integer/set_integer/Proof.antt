@@ -6,7 +6,7 @@ use mathlib.Core.Bool.{false, not}
 use Rattle.model.specs.Words.{State, stateOf}
 use Rattle.model.specs.Shape.{badShape}
 use Rattle.model.specs.Calls.{setInteger}
-use Rattle.model.proofs.Refusing.{said, applies, passes}
+use Rattle.theory.proofs.Refusing.{said, applies, passes}
 use Rattle.integers.specs.Tagging.{tagged}
 use Rattle.integers.proofs.TaggedIntegers.{tagged-word, tagged-none}
 use borrow.Author.Needs.{needs}

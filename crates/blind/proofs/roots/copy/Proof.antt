@@ -8,7 +8,7 @@ use Rattle.model.specs.Words.{State, stateOf}
 use Rattle.model.specs.Shape.{badShape}
 use Rattle.model.specs.Changes.{noRoot}
 use Rattle.model.specs.Calls.{copy}
-use Rattle.model.proofs.Refusing.{said, applies, passes}
+use Rattle.theory.proofs.Refusing.{said, applies, passes}
 use Rattle.words.proofs.RootNumbers.{both-below}
 use borrow.Author.Needs.{needs}
 use Rattle.blind.proofs.roots.copy.Statement.{statement}

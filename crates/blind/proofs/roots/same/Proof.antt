@@ -11,7 +11,7 @@ use Rattle.model.specs.Shape.{badShape}
 use Rattle.model.specs.Changes.{noRoot}
 use Rattle.model.specs.Answers.{Outcome, says}
 use Rattle.model.specs.Calls.{same}
-use Rattle.model.proofs.Refusing.{said, applies, passes}
+use Rattle.theory.proofs.Refusing.{said, applies, passes}
 use Rattle.words.proofs.RootNumbers.{both-below}
 use borrow.Author.Needs.{needs}
 use Rattle.blind.proofs.roots.same.Statement.{statement}

@@ -9,7 +9,7 @@ use lib.ListN.{length, getD}
 use borrow.Author.Needs.{needs}
 use borrow.Author.Tests.{not-true, not-false}
 use Rattle.model.specs.Reading.{Open, digits, go, Next}
-use Rattle.model.proofs.Tests.{never}
+use Rattle.theory.proofs.Tests.{never}
 use Rattle.reader_judging.specs.Places.{rest}
 use Rattle.reader_judging.proofs.Steps.{step-to, digit-bounds}
 use Rattle.reader_judging.proofs.Digits.{Sized, size-first, size-more, size-fits, size-full, most-high, soFar, one-more, no-more, first-so-far, full, size-some}

@@ -6,7 +6,7 @@ use Rattle.model.specs.declared.Answer.the-variants as Says
 use Rattle.model.specs.Answers.{says}
 use Rattle.model.specs.Words.{State, stateOf}
 use Rattle.model.specs.Headers.{tuple}
-use Rattle.model.proofs.Refusing.{said}
+use Rattle.theory.proofs.Refusing.{said}
 use Rattle.views.specs.declared.contents.Sort.the-variants.{Integer, Code, Object}
 use Rattle.views.specs.Sorts.{sortOf}
 use Rattle.views.proofs.Inspecting.{inspect-by-sort, integer-in-roots, code-in-roots, object-in-roots, object-in-heap, object-answer}

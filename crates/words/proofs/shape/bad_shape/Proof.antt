@@ -5,8 +5,8 @@ use borrow.Author.Tests.{lt-ltb, le-ltb}
 use native.Mathlib.Omega.{arith}
 use Rattle.model.specs.Words.{halfWordsOf, firstOf}
 use Rattle.model.specs.Shape.{badLength, badShapeOf}
-use Rattle.model.proofs.Tests.{or-right}
-use Rattle.model.proofs.Shape.{GoodLength, good-length, first-most}
+use Rattle.theory.proofs.Tests.{or-right}
+use Rattle.theory.proofs.Shape.{GoodLength, good-length, first-most}
 use Rattle.words.proofs.FirstWords.{first-by-length}
 use Rattle.words.proofs.ShapeTests.{free-tests}
 use borrow.Author.Needs.{needs}

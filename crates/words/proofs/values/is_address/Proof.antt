@@ -5,7 +5,7 @@ use mathlib.Core.Bool.{not, and-true}
 use borrow.Author.Tests.{eq-eqb, ne-eqb, lt-ltb, le-ltb}
 use Rattle.model.specs.Limits.{codeFloor}
 use Rattle.model.specs.Values.{isNull}
-use Rattle.model.proofs.WordSorts.{odd-no-address}
+use Rattle.theory.proofs.WordSorts.{odd-no-address}
 use Rattle.words.proofs.values.is_address.Statement.{statement}
 use Rattle.words.proofs.values.is_address.Tie as tie
 use Rattle.words.proofs.values.is_address.Reads as reads
