@@ -14,8 +14,9 @@ use Rattle.model.specs.Trees.{Tree, node, then, end, treeWords}
 use Rattle.model.specs.ReadFaults as Faults
 use Rattle.model.specs.Reading.{Open, brace, height, start, braced, numbered, whole, Next, go, bad, begin, broken}
 use Rattle.theory.proofs.Tests.{never}
-use Rattle.reader_judging.specs.Places.{rest, braces, wrapped, Stuck, OpensOne, Opened, Closed, whyOf, Room, Whole, Reads}
-use Rattle.reader_judging.proofs.Steps.{step-to}
+use Rattle.reader_numerals.specs.Numerals.{rest}
+use Rattle.reader_judging.specs.Places.{braces, wrapped, Stuck, OpensOne, Opened, Closed, whyOf, Room, Whole, Reads}
+use Rattle.reader_numerals.proofs.Steps.{step-to}
 use Rattle.reader_judging.proofs.Forests.{one-words}
 use Rattle.reader_judging.proofs.Sorts.{missing, refused}
 

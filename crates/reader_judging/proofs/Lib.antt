@@ -1,6 +1,3 @@
-pub mod Steps
-pub mod Digits
-pub mod Naturals
 pub mod Forests
 pub mod Sorts
 pub mod Tuples

@@ -17,8 +17,9 @@ use Rattle.model.specs.ReadFaults as Faults
 use Rattle.model.specs.Reading.{Open, height, Mode, start, opened, Next, go, bad, signed}
 use Rattle.model.specs.Reading.{begin, onward, stopped, Parsed, broken}
 use Rattle.theory.proofs.Tests.{decide, or-cases}
-use Rattle.reader_judging.specs.Places.{rest, negative, Numeral, whyOf, Stuck, Whole, Reads}
-use Rattle.reader_judging.proofs.Steps.{step-to, step-bad, at-end}
+use Rattle.reader_numerals.specs.Numerals.{rest, negative, Numeral}
+use Rattle.reader_judging.specs.Places.{whyOf, Stuck, Whole, Reads}
+use Rattle.reader_numerals.proofs.Steps.{step-to, step-bad, at-end}
 
 -- what no byte that stands at a place may follow
 pub missing : (t : List ℕ) (x : Next) (at : ℕ) → at ≤ length t → stopped x ≡ broken Why.Value

@@ -13,8 +13,9 @@ use Rattle.model.specs.Texts.{maxDepth}
 use Rattle.model.specs.Trees.{Tree, node, end, count, forestWords, treeWords}
 use Rattle.model.specs.Reading.{Open, paren, height, forestOf, noneYet, start, opened, whole, Next, go, bad, follow, broken}
 use Rattle.theory.proofs.Tests.{by-test, decide, same?}
-use Rattle.reader_judging.specs.Places.{rest, whyOf, Room, Closes, Whole, Reads}
-use Rattle.reader_judging.proofs.Steps.{step-to, at-end}
+use Rattle.reader_numerals.specs.Numerals.{rest}
+use Rattle.reader_judging.specs.Places.{whyOf, Room, Closes, Whole, Reads}
+use Rattle.reader_numerals.proofs.Steps.{step-to, at-end}
 use Rattle.reader_judging.proofs.Forests.{count-more, words-more, none-counts, some-yet, not-none-yet}
 use Rattle.reader_judging.proofs.Sorts.{missing, refused}
 

@@ -20,8 +20,9 @@ use Rattle.theory.proofs.Tests.{same?, never}
 use Rattle.reader_judging.specs.declared.Judged.{Judged}
 use Rattle.reader_judging.specs.declared.Judged.the-variants.{Integer, Tuple, Refused}
 use Rattle.reader_judging.specs.Judging.{judgedOf}
-use Rattle.reader_judging.specs.Places.{rest, negative, Numeral, whyOf, Reads}
-use Rattle.reader_judging.proofs.Steps.{step-bad, at-end}
+use Rattle.reader_numerals.specs.Numerals.{rest, negative, Numeral}
+use Rattle.reader_judging.specs.Places.{whyOf, Reads}
+use Rattle.reader_numerals.proofs.Steps.{step-bad, at-end}
 
 -- an integer in its range fits 32 bits
 pub signed-fits : (neg : Bool) (n : ℕ) → n ≤ mostDigits neg → SFits w32 (signed neg n)

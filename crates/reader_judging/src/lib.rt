@@ -5,12 +5,11 @@ ghost use Prim.Native.Nat.{_≤_};
 ghost use Rattle.model.specs.Reading.{parsed, mostDigits, signed};
 ghost use Rattle.reader_judging.specs.Judging.{judgedOf};
 use model::Refusal;
+use reader_numerals::MINUS;
+use reader_numerals::integer;
 
-pub mod numerals;
 pub mod values;
 
-use numerals::MINUS;
-use numerals::integer;
 use values::DEEP;
 use values::is_opener;
 use values::outermost;

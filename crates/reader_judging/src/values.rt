@@ -10,7 +10,7 @@ ghost use Rattle.model.specs.ReadFaults as Faults;
 ghost use Rattle.model.specs.Reading.{start, opened};
 ghost use Rattle.reader_judging.specs.Places.{Room, Tupled, Closes, Reads};
 ghost use Rattle.reader_judging.specs.Places.{Stuck, OpensOne, Opened, Closed};
-use crate::numerals::integer;
+use reader_numerals::integer;
 
 // Tuples nest so deep.
 pub const MAX_DEPTH: usize = 64;

@@ -3,11 +3,11 @@ ghost use mathlib.Core.Path.{_≡_};
 ghost use Rattle.model.specs.Trees.{Forest};
 ghost use Rattle.model.specs.ReadFaults as Faults;
 ghost use Rattle.reader_placing.specs.Counting.{Countable, CountsKept};
-use reader_judging::numerals::is_digit;
 use reader_judging::values::CLOSER;
 use reader_judging::values::COMMA;
 use reader_judging::values::ONE_CLOSER;
 use reader_judging::values::is_opener;
+use reader_numerals::is_digit;
 
 fn is_closer(byte: u8) -> bool
     ensures { λ r. ⌜ r ≡ Faults.closes byte ⌝ }

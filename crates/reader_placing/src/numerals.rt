@@ -3,9 +3,9 @@ ghost use Prim.Native.Nat.{ℕ, _<_};
 ghost use lib.IntN.{ℤ};
 ghost use lib.ListN.{length};
 ghost use Rattle.reader_placing.specs.Numerals.{DigitsAt, DigitsRead, IntegerAt, IntegerRead};
-use reader_judging::numerals::MINUS;
-use reader_judging::numerals::ZERO;
-use reader_judging::numerals::is_digit;
+use reader_numerals::MINUS;
+use reader_numerals::ZERO;
+use reader_numerals::is_digit;
 
 // The word of -1.
 const LAST_WORD: u32 = 4294967295;

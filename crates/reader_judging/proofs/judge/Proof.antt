@@ -8,14 +8,14 @@ use mir.Syntax.{w32}
 use mir.Val.{toZ, ofZ}
 use mir.ValLaws.{toZ-ofZ}
 use borrow.Author.Tests.{not-true, not-false}
-use Rattle.reader_judging.specs.Places.{negative}
+use Rattle.reader_numerals.specs.Numerals.{negative}
 use Rattle.reader_judging.proofs.Verdicts.{signed-fits, empty, no-integer, small, an-integer, a-tuple, more-behind, deep, no-value}
 use borrow.Author.Needs.{needs}
 use Rattle.reader_judging.proofs.judge.Statement.{statement}
 use Rattle.reader_judging.proofs.judge.Tie as tie
 use Rattle.reader_judging.proofs.judge.Reads as reads
 use Rattle.reader_judging.proofs.judge.Lts as lts
-use Rattle.reader_judging.proofs.numerals.integer.Reads as integer-reads
+use Rattle.reader_numerals.proofs.integer.Reads as integer-reads
 use Rattle.reader_judging.proofs.signed_of.Reads as signed-of-reads
 use Rattle.reader_judging.proofs.values.is_opener.Reads as is-opener-reads
 use Rattle.reader_judging.proofs.values.outermost.Reads as outermost-reads

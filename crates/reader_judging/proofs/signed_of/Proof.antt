@@ -10,8 +10,8 @@ use mir.Val.{toZ, ofZ}
 use mir.ValLaws.{toZ-ofZ, toZ-pos}
 use borrow.Author.Tests.{not-true, not-false}
 use Rattle.model.specs.Reading.{signed}
-use Rattle.reader_judging.proofs.Digits.{most-high}
-use Rattle.reader_judging.proofs.Naturals.{signed-zero}
+use Rattle.reader_numerals.proofs.DigitRuns.{most-high}
+use Rattle.reader_numerals.proofs.Naturals.{signed-zero}
 use borrow.Author.Needs.{needs}
 use Rattle.reader_judging.proofs.signed_of.Statement.{statement}
 use Rattle.reader_judging.proofs.signed_of.Tie as tie

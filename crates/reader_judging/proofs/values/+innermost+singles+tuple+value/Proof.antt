@@ -7,7 +7,7 @@ use lib.ListN.{length, getD}
 use denote.Ref.{now}
 use borrow.Author.Needs.{needs}
 use borrow.Author.Tests.{not-true, not-false}
-use Rattle.reader_judging.proofs.Steps.{there, not-there}
+use Rattle.reader_numerals.proofs.Steps.{there, not-there}
 use Rattle.reader_judging.proofs.Sorts.{nothing, no-integer, an-integer, too-deep, stuck, a-tuple}
 use Rattle.reader_judging.proofs.Tuples.{Fields, no-fields, first-field, field-room, bad-field, closer-room, more-fields, closed}
 use Rattle.reader_judging.proofs.Chains.{inner-room, no-inner, sums, not-closed, a-chain}
@@ -26,7 +26,7 @@ use Rattle.reader_judging.proofs.values.+innermost+singles+tuple+value.
 use Rattle.reader_judging.proofs.values.value.Reads as value
 use Rattle.reader_judging.proofs.values.value.Kinds as value-kinds
 use Rattle.reader_judging.proofs.values.+innermost+singles+tuple+value.Lts-value as value-lts
-use Rattle.reader_judging.proofs.numerals.integer.Reads as integer-reads
+use Rattle.reader_numerals.proofs.integer.Reads as integer-reads
 use Rattle.reader_judging.proofs.values.close.Reads as close-reads
 use Rattle.reader_judging.proofs.values.closings.Reads as closings-reads
 use Rattle.reader_judging.proofs.values.is_at.Reads as is-at-reads

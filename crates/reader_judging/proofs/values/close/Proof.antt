@@ -2,7 +2,7 @@
 use native.Mathlib.Omega.{arith}
 use mathlib.Core.Path.{refl}
 use borrow.Author.Tests.{not-true, not-false}
-use Rattle.reader_judging.proofs.Steps.{there, not-there}
+use Rattle.reader_numerals.proofs.Steps.{there, not-there}
 use borrow.Author.Needs.{needs}
 use Rattle.reader_judging.proofs.values.close.Statement.{statement}
 use Rattle.reader_judging.proofs.values.close.Tie as tie

@@ -3,7 +3,7 @@ use Prim.Native.Nat.{ℕ, _+_, _-_, _≤_, _<_}
 use native.Mathlib.Omega.{arith}
 use borrow.Author.Needs.{needs}
 use borrow.Author.Tests.{not-true, not-false}
-use Rattle.reader_judging.proofs.Steps.{there, not-there}
+use Rattle.reader_numerals.proofs.Steps.{there, not-there}
 use Rattle.reader_judging.proofs.Chains.{Closing, none-closed, no-closer, one-closed, all-closed}
 use Rattle.reader_judging.proofs.values.closings.Statement.{statement}
 use Rattle.reader_judging.proofs.values.closings.Tie as tie

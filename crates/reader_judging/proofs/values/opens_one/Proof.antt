@@ -2,7 +2,7 @@
 use Prim.Native.Nat.{_+_}
 use native.Mathlib.Omega.{arith}
 use borrow.Author.Tests.{not-true, not-false}
-use Rattle.reader_judging.proofs.Steps.{there, not-there}
+use Rattle.reader_numerals.proofs.Steps.{there, not-there}
 use Rattle.reader_judging.proofs.Chains.{no-brace, no-one, equals}
 use borrow.Author.Needs.{needs}
 use Rattle.reader_judging.proofs.values.opens_one.Statement.{statement}

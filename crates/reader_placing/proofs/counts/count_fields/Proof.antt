@@ -14,7 +14,7 @@ use Rattle.reader_placing.proofs.counts.count_fields.Reads as reads
 use Rattle.reader_placing.proofs.counts.count_fields.Lts as lts
 use Rattle.reader_placing.proofs.counts.is_closer.Reads as is-closer-reads
 use Rattle.reader_judging.proofs.values.is_opener.Reads as is-opener-reads
-use Rattle.reader_judging.proofs.numerals.is_digit.Reads as is-digit-reads
+use Rattle.reader_numerals.proofs.is_digit.Reads as is-digit-reads
 
 abbrev Inv-loop : tie.InvT-loop
 Inv-loop heap₀ text end open₀ top₀ slot₀ place₀ heap «open» top slot place =

@@ -12,7 +12,7 @@ use Rattle.reader_placing.proofs.numerals.magnitude.Statement.{statemen
 use Rattle.reader_placing.proofs.numerals.magnitude.Tie as tie
 use Rattle.reader_placing.proofs.numerals.magnitude.Reads as reads
 use Rattle.reader_placing.proofs.numerals.magnitude.Lts as lts
-use Rattle.reader_judging.proofs.numerals.is_digit.Reads as is-digit-reads
+use Rattle.reader_numerals.proofs.is_digit.Reads as is-digit-reads
 
 abbrev Inv-loop : tie.InvT-loop
 Inv-loop text at number₀ place₀ byte₀ number place byte = (n : ℕ) → DigitsAt text at n → Left text at n number place byte

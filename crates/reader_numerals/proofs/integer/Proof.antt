@@ -2,14 +2,14 @@ use lib.ListN.{getD}
 -- `reader_judging::numerals::integer` meets its contract.
 use Prim.Native.Nat.{ℕ, _+_, _≤_}
 use native.Mathlib.Omega.{arith}
-use Rattle.reader_judging.proofs.Naturals.{just-zero, with-sign, sign-small}
+use Rattle.reader_numerals.proofs.Naturals.{just-zero, with-sign, sign-small}
 use borrow.Author.Needs.{needs}
-use Rattle.reader_judging.proofs.numerals.integer.Statement.{statement}
-use Rattle.reader_judging.proofs.numerals.integer.Tie as tie
-use Rattle.reader_judging.proofs.numerals.integer.Reads as reads
-use Rattle.reader_judging.proofs.numerals.integer.Lts as lts
-use Rattle.reader_judging.proofs.numerals.natural.Reads as natural-reads
-use Rattle.reader_judging.proofs.numerals.sign_bytes.Reads as sign-bytes-reads
+use Rattle.reader_numerals.proofs.integer.Statement.{statement}
+use Rattle.reader_numerals.proofs.integer.Tie as tie
+use Rattle.reader_numerals.proofs.integer.Reads as reads
+use Rattle.reader_numerals.proofs.integer.Lts as lts
+use Rattle.reader_numerals.proofs.natural.Reads as natural-reads
+use Rattle.reader_numerals.proofs.sign_bytes.Reads as sign-bytes-reads
 
 -- src/numerals.rt:98:17
 shared-slice-read-first : tie.Need-shared-slice-read-first

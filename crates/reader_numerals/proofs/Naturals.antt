@@ -15,9 +15,9 @@ use Rattle.model.specs.Trees.{leaf}
 use Rattle.model.specs.ReadFaults as Faults
 use Rattle.model.specs.Reading.{Open, start, negated, digits, whole, Next, go, bad, isDigit, signed, mostDigits, begin, onward, stopped, broken}
 use Rattle.theory.proofs.Tests.{by-test, decide, or-none}
-use Rattle.reader_judging.specs.Places.{rest, isFirst, ofDigits, Counted, firstDigit, Awaits, NaturalRead, Natural, negative, NumeralRead, Numeral}
-use Rattle.reader_judging.proofs.Steps.{step-to, step-bad, at-end, bad-stays}
-use Rattle.reader_judging.proofs.Digits.{no-more, first-so-far}
+use Rattle.reader_numerals.specs.Numerals.{rest, isFirst, ofDigits, Counted, firstDigit, Awaits, NaturalRead, Natural, negative, NumeralRead, Numeral}
+use Rattle.reader_numerals.proofs.Steps.{step-to, step-bad, at-end, bad-stays}
+use Rattle.reader_numerals.proofs.DigitRuns.{no-more, first-so-far}
 
 -- ---- the first digit
 

@@ -7,7 +7,7 @@ ghost use lib.ListN.{length, getD};
 ghost use Rattle.model.specs.Texts.{minus};
 ghost use Rattle.model.specs.ReadFaults as Faults;
 ghost use Rattle.model.specs.Reading.{isDigit};
-ghost use Rattle.reader_judging.specs.Places.{isFirst, Counted, Natural, Numeral};
+ghost use Rattle.reader_numerals.specs.Numerals.{isFirst, Counted, Natural, Numeral};
 
 const MAX_INTEGER: u64 = 1073741823;
 

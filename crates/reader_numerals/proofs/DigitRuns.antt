@@ -13,8 +13,8 @@ use Rattle.model.specs.Texts.{maxDepth}
 use Rattle.model.specs.Trees.{leaf}
 use Rattle.model.specs.Reading.{Open, outside, paren, brace, Mode, digits, whole, Next, go, bad, isDigit, signed, mostDigits, next, onward}
 use Rattle.theory.proofs.Tests.{by-test, decide}
-use Rattle.reader_judging.specs.Places.{rest, ofDigits, firstDigit}
-use Rattle.reader_judging.proofs.Steps.{step-to, at-end, digit-bounds, follow-digit}
+use Rattle.reader_numerals.specs.Numerals.{rest, ofDigits, firstDigit}
+use Rattle.reader_numerals.proofs.Steps.{step-to, at-end, digit-bounds, follow-digit}
 
 -- 10 to the power k
 unfoldable pub tens : ℕ → ℕ

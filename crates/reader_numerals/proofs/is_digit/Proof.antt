@@ -1,10 +1,10 @@
 -- `reader_judging::numerals::is_digit` meets its contract.
 use borrow.Author.Tests.{le-leb, lt-leb}
 use native.Mathlib.Omega.{arith}
-use Rattle.reader_judging.proofs.numerals.is_digit.Statement.{statement}
-use Rattle.reader_judging.proofs.numerals.is_digit.Tie as tie
-use Rattle.reader_judging.proofs.numerals.is_digit.Reads as reads
-use Rattle.reader_judging.proofs.numerals.is_digit.Lts as lts
+use Rattle.reader_numerals.proofs.is_digit.Statement.{statement}
+use Rattle.reader_numerals.proofs.is_digit.Tie as tie
+use Rattle.reader_numerals.proofs.is_digit.Reads as reads
+use Rattle.reader_numerals.proofs.is_digit.Lts as lts
 
 -- src/numerals.rt:22:1
 returns : tie.Need-returns

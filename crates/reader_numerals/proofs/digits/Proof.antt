@@ -10,15 +10,15 @@ use borrow.Author.Needs.{needs}
 use borrow.Author.Tests.{not-true, not-false}
 use Rattle.model.specs.Reading.{Open, digits, go, Next}
 use Rattle.theory.proofs.Tests.{never}
-use Rattle.reader_judging.specs.Places.{rest}
-use Rattle.reader_judging.proofs.Steps.{step-to, digit-bounds}
-use Rattle.reader_judging.proofs.Digits.{Sized, size-first, size-more, size-fits, size-full, most-high, soFar, one-more, no-more, first-so-far, full, size-some}
-use Rattle.reader_judging.proofs.numerals.digits.Statement.{statement}
-use Rattle.reader_judging.proofs.numerals.digits.Tie as tie
-use Rattle.reader_judging.proofs.numerals.digits.Reads as reads
-use Rattle.reader_judging.proofs.numerals.digits.Lts as lts
-use Rattle.reader_judging.proofs.numerals.is_digit.Reads as is-digit-reads
-use Rattle.reader_judging.proofs.numerals.last_of.Reads as last-of-reads
+use Rattle.reader_numerals.specs.Numerals.{rest}
+use Rattle.reader_numerals.proofs.Steps.{step-to, digit-bounds}
+use Rattle.reader_numerals.proofs.DigitRuns.{Sized, size-first, size-more, size-fits, size-full, most-high, soFar, one-more, no-more, first-so-far, full, size-some}
+use Rattle.reader_numerals.proofs.digits.Statement.{statement}
+use Rattle.reader_numerals.proofs.digits.Tie as tie
+use Rattle.reader_numerals.proofs.digits.Reads as reads
+use Rattle.reader_numerals.proofs.digits.Lts as lts
+use Rattle.reader_numerals.proofs.is_digit.Reads as is-digit-reads
+use Rattle.reader_numerals.proofs.last_of.Reads as last-of-reads
 
 abbrev Inv-loop : tie.InvT-loop
 Inv-loop text from number₀ last total₀ place₀ number total place = (from < place) × (place ≤ last) × Sized (place - from) total

@@ -1,9 +1,9 @@
 -- `reader_judging::numerals::sign_bytes` meets its contract.
 use borrow.Author.Tests.{eq-eqb, ne-eqb}
-use Rattle.reader_judging.proofs.numerals.sign_bytes.Statement.{statement}
-use Rattle.reader_judging.proofs.numerals.sign_bytes.Tie as tie
-use Rattle.reader_judging.proofs.numerals.sign_bytes.Reads as reads
-use Rattle.reader_judging.proofs.numerals.sign_bytes.Lts as lts
+use Rattle.reader_numerals.proofs.sign_bytes.Statement.{statement}
+use Rattle.reader_numerals.proofs.sign_bytes.Tie as tie
+use Rattle.reader_numerals.proofs.sign_bytes.Reads as reads
+use Rattle.reader_numerals.proofs.sign_bytes.Lts as lts
 
 -- src/numerals.rt:88:9
 returns : tie.Need-returns

@@ -15,7 +15,7 @@ use Rattle.model.specs.Texts.{maxDepth}
 use Rattle.model.specs.Trees.{Tree}
 use Rattle.model.specs.Reading.{Open, outside, paren, brace, Next, go, bad, isDigit, follow, onward, stopped, Parsed, broken, parsedFrom}
 use Rattle.theory.proofs.Tests.{and-both, both-and, never}
-use Rattle.reader_judging.specs.Places.{rest}
+use Rattle.reader_numerals.specs.Numerals.{rest}
 
 pub step : (t : List ℕ) (x : Next) (at : ℕ) → at < length t → rest t x at ≡ rest t (onward maxDepth x (getD t at 0)) (at + 1)
 unfolding parsedFrom

@@ -1,13 +1,13 @@
 -- `reader_judging::numerals::natural` meets its contract.
 use Prim.Native.Nat.{_≤_, _<_}
 use native.Mathlib.Omega.{arith}
-use Rattle.reader_judging.proofs.Naturals.{none-left, none-low, none-high, too-large, in-range}
+use Rattle.reader_numerals.proofs.Naturals.{none-left, none-low, none-high, too-large, in-range}
 use borrow.Author.Needs.{needs}
-use Rattle.reader_judging.proofs.numerals.natural.Statement.{statement}
-use Rattle.reader_judging.proofs.numerals.natural.Tie as tie
-use Rattle.reader_judging.proofs.numerals.natural.Reads as reads
-use Rattle.reader_judging.proofs.numerals.natural.Lts as lts
-use Rattle.reader_judging.proofs.numerals.digits.Reads as digits-reads
+use Rattle.reader_numerals.proofs.natural.Statement.{statement}
+use Rattle.reader_numerals.proofs.natural.Tie as tie
+use Rattle.reader_numerals.proofs.natural.Reads as reads
+use Rattle.reader_numerals.proofs.natural.Lts as lts
+use Rattle.reader_numerals.proofs.digits.Reads as digits-reads
 
 -- src/numerals.rt:66:9
 returns : tie.Need-returns
