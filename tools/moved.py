@@ -1,6 +1,6 @@
 #!/usr/bin/env python3
 """What moved between two commits, by name: how many definitions, functions, theorems and lemmas of each crate are new,
-changed, gone and the same. One table in Markdown, a row a crate.
+moved there, changed, gone and the same. One table in Markdown, a row a crate.
 
     tools/moved.py [--names] BASE [HEAD]    HEAD is the commit HEAD if not given; --names also lists what moved
 
@@ -12,9 +12,10 @@ theorems      in proofs/ the last pub declaration of each Proof.antt; of other f
 lemmas        in proofs/ every other declaration
 
 Texts are compared without comments and, but for strings, white space; a declaration's has its `where` and the headers
-of the modules around it. One that moves to another file, or is renamed, is one gone and one new; a lemma that
-PROMISES.md begins to name is one lemma gone and one theorem new. Files are read in the layout of `rt fmt`: a line that
-cannot be placed is told by file and line, with exit status 2, so that nothing is counted in part.
+of the modules around it. One that stands in another file or crate than before, its own name and its text the same,
+is moved, and counted where it stands now; one that is renamed is one gone and one new, and so is a lemma that
+PROMISES.md begins to name. Files are read in the layout of `rt fmt`: a line that cannot be placed is told by file and
+line, with exit status 2, so that nothing is counted in part.
 """
 import itertools
 import re
@@ -24,7 +25,7 @@ from collections import Counter, namedtuple
 from types import SimpleNamespace as Entry
 
 KINDS = ["definitions", "functions", "theorems", "lemmas"]
-SIGNS = {"new": "+", "changed": "~", "gone": "-", "same": "="}
+SIGNS = {"new": "+", "moved": ">", "changed": "~", "gone": "-", "same": "="}
 CRATES, PROMISES = "crates.txt", "docs/PROMISES.md"
 SOURCE = re.compile(r"crates/([^/]+)/(specs|proofs|src)/(.+)\.(?:antt|rt)")
 Line = namedtuple("Line", "place indent text")
@@ -167,8 +168,26 @@ def files_of(commit):
     return texts
 
 
+def fates_of(old, new):
+    """What became of each entry, by crate, kind and name."""
+    fates, left = {x: "gone" for x in old}, {}
+    fates.update({x: "same" if old.get(x) == new[x] else "changed" if x in old else "new" for x in new})
+
+    def without_place(entry, text):
+        return entry[1], re.split(r"\.|::", entry[2])[-1], text
+
+    for entry in [x for x in old if fates[x] == "gone"]:
+        left.setdefault(without_place(entry, old[entry]), []).append(entry)
+    for entry in [x for x in new if fates[x] == "new"]:
+        before = left.get(without_place(entry, new[entry]))
+        if before:
+            fates[entry] = "moved"
+            del fates[before.pop(0)]
+    return fates
+
+
 def table(fates, crates):
-    yield from ["+ new, ~ changed, - gone, = the same.", "", f"| crate | {' | '.join(KINDS)} |", "|---" * 5 + "|"]
+    yield from ["+ new, > moved here, ~ changed, - gone, = the same.", "", f"| crate | {' | '.join(KINDS)} |", "|---" * 5 + "|"]
     count = Counter((row, kind, fate) for (crate, kind, _), fate in fates.items() for row in (f"`{crate}`", "all"))
     for row in [*(f"`{crate}`" for crate in crates), "all"]:
         signed = [[f"{SIGNS[x]}{count[row, kind, x]}" for x in SIGNS if count[row, kind, x]] for kind in KINDS]
@@ -176,7 +195,7 @@ def table(fates, crates):
 
 
 def moved_names(fates, crates):
-    for crate, kind, fate in itertools.product(crates, KINDS, ["new", "changed", "gone"]):
+    for crate, kind, fate in itertools.product(crates, KINDS, ["new", "moved", "changed", "gone"]):
         those = sorted(key[2] for key, became in fates.items() if (*key[:2], became) == (crate, kind, fate))
         if those:
             yield f"- `{crate}`, {kind}, {fate}: " + ", ".join(f"`{name}`" for name in those)
@@ -187,9 +206,7 @@ def main():
     if len(commits) not in (1, 2):
         fail(Line("tools/moved.py", 0, "[--names] BASE [HEAD]"), "one commit or two")
     base, head = [files_of(commit) for commit in (commits + ["HEAD"])[:2]]
-    old, new = entries(base), entries(head)
-    fates = {x: "gone" for x in old}
-    fates.update({x: "same" if old.get(x) == new[x] else "changed" if x in old else "new" for x in new})
+    fates = fates_of(entries(base), entries(head))
     listed = re.findall(r"^(\w+):", head.get(CRATES, ""), re.M)
     crates = listed + sorted({crate for crate, _, _ in fates} - set(listed))
     sys.stdout.reconfigure(encoding="utf-8")

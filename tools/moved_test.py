@@ -4,7 +4,8 @@ of them with what must be; then one with a line that belongs nowhere, which must
 must be, else 1 and the lines that differ.
 
 The crates `meanings`, `code` and `laws` have of each kind one new, one changed, one gone and one that is the same;
-`layout` has what only seems to change, or changes for a reason that stands elsewhere; `attic` is gone.
+`layout` has what only seems to change, or changes for a reason that stands elsewhere; `attic` is gone, and one of its
+two definitions, as it was, is in `meanings`.
 """
 import difflib
 import os
@@ -28,6 +29,9 @@ Theorems `Sums.adds` and `sum-is`; `moves` is a field; two files have `twice-tol
 === crates/attic/specs/Old.antt
 abbrev pub old : ℕ
 old = 0
+
+abbrev pub kept : ℕ
+kept = 7
 === crates/meanings/specs/Steps.antt
 use Prim.Native.Nat.{ℕ}
 
@@ -194,7 +198,9 @@ CHANGES = [
      "Again.antt\npub twice-told : ℕ\ntwice-told = 1\n\nmoves : ℕ\nmoves = 1\n"),
     # attic
     ("attic:\n", ""),
-    ("=== crates/attic/specs/Old.antt\nabbrev pub old : ℕ\nold = 0\n", ""),
+    ("=== crates/attic/specs/Old.antt\nabbrev pub old : ℕ\nold = 0\n\nabbrev pub kept : ℕ\nkept = 7\n", ""),
+    ("abbrev pub first : ℕ\nfirst = 1\n",
+     "abbrev pub first : ℕ\nfirst = 1\n\nabbrev pub kept : ℕ\nkept = 7\n\nabbrev pub old : ℕ\nold = 1\n"),
 ]
 
 
@@ -207,18 +213,19 @@ def changed(tree):
 
 HEAD = changed(BASE)
 
-EXPECTED = '''+ new, ~ changed, - gone, = the same.
+EXPECTED = '''+ new, > moved here, ~ changed, - gone, = the same.
 
 | crate | definitions | functions | theorems | lemmas |
 |---|---|---|---|---|
-| `meanings` | +1 ~1 -1 =1 |  |  |  |
+| `meanings` | +2 >1 ~1 -1 =1 |  |  |  |
 | `code` | +1 -1 =3 | +1 ~1 -1 =1 |  |  |
 | `laws` |  |  | +1 ~1 -1 =1 | +1 ~1 -1 =1 |
-| `layout` | ~6 =4 | ~2 =2 |  | +1 ~2 -1 =2 |
+| `layout` | ~6 =4 | ~2 =2 |  | >1 ~2 =2 |
 | `attic` | -1 |  |  |  |
-| all | +2 ~7 -3 =8 | +1 ~3 -1 =3 | +1 ~1 -1 =1 | +2 ~3 -2 =3 |
+| all | +3 >1 ~7 -3 =8 | +1 ~3 -1 =3 | +1 ~1 -1 =1 | +1 >1 ~3 -1 =3 |
 
-- `meanings`, definitions, new: `Steps.next`
+- `meanings`, definitions, new: `Steps.next`, `Steps.old`
+- `meanings`, definitions, moved: `Steps.kept`
 - `meanings`, definitions, changed: `Steps.Pair`
 - `meanings`, definitions, gone: `Steps.last`
 - `code`, definitions, new: `comes`
@@ -234,9 +241,8 @@ EXPECTED = '''+ new, ~ changed, - gone, = the same.
 - `laws`, lemmas, gone: `Sums.leaves`
 - `layout`, definitions, changed: `MOST`, `Shapes.Named.Tree`, `Shapes._⟦_⟧`, `Shapes.deep`, `Shapes.flat`, `promised`
 - `layout`, functions, changed: `said`, `worked`
-- `layout`, lemmas, new: `Again.moves`
+- `layout`, lemmas, moved: `Again.moves`
 - `layout`, lemmas, changed: `Twice.helped`, `Twice.opens`
-- `layout`, lemmas, gone: `Twice.moves`
 - `attic`, definitions, gone: `Old.old`
 exit status 0
 crates/attic/specs/Old.antt:3: belongs to no declaration: older = 1
