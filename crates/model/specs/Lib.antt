@@ -1,5 +1,5 @@
 -- The definitions of document 01, to be read in this order: each file has one subject and says which section it is.
--- Then what the three demands say of them, and further laws, as types; `proofs/` has their proofs.
+-- Then what the three demands say of them, and further laws, as types; the crates `demands` and `theory` have their proofs.
 pub mod Limits
 pub mod Words
 pub mod Values
