@@ -77,8 +77,8 @@ fn bytes(text: &[u8]) {
     show::text(b"\"");
 }
 
-// A line of one call that is lent bytes, all of them after its answer: a write, with their number in the text, and
-// a read.
+// A line of one call that is lent bytes, all of them after its answer: a write, with their number in the
+// text, and a read.
 pub fn write(heap: &mut [u32], roots: &mut [u32], record: Record, root: usize, text: &mut [u8]) {
     let done = answered(heap, roots, record, Call::Write { root }, text);
     let answer = done.answer;

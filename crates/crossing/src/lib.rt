@@ -69,8 +69,8 @@ pub struct CWindow {
     pub count: u32,
 }
 
-// The record to call with. A free index of 0 is SHAPE in every heap, which a half that is none has to be. Half
-// and index are chosen one by one, which takes no jump: every call comes this way.
+// The record to call with. A free index of 0 is SHAPE in every heap, which a half that is none has to be.
+// Half and index are chosen one by one, which takes no jump: every call comes this way.
 pub fn record_of(record: CRecord) -> Record
     ensures { λ r. ⌜ r ≡ taken «record» ⌝ }
 {

@@ -76,8 +76,8 @@ pub fn collect_sound(heap: &mut [u32], roots: &mut [u32], record: Record) -> Col
     }
 }
 
-// The same, where the first `count` roots count as live: all of them. It is for a call that makes room, of which
-// the root that it sets counts too.
+// The same, where the first `count` roots count as live: all of them. It is for a call that makes room, of
+// which the root that it sets counts too.
 pub fn collect_among(heap: &mut [u32], roots: &mut [u32], count: usize, record: Record) -> Collected
     requires { ⌜ (count ≡ length (now roots))
         × (sound tuple (stateOf (now heap) (now roots) «record») ≡ true) ⌝ }

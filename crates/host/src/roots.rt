@@ -83,8 +83,9 @@ pub fn same(
     answered.answer
 }
 
-// What a root holds: null, an integer, a code word, or an object with its kind and field count; or SHAPE, ROOT
-// or OBJECT. Leaves all as it was. Of the heap it looks at the header that the root names, and at no field.
+// What a root holds: null, an integer, a code word, or an object with its kind and field count; or SHAPE,
+// ROOT or OBJECT. Leaves all as it was. Of the heap it looks at the header that the root names, and at no
+// field.
 pub fn inspect(heap: &mut [u32], roots: &mut [u32], record: &mut Record, root: usize) -> Answer
     ensures { λ r. ⌜ thinOutcome r heap roots «record»
         ≡ Calls.inspect Layouts.tuple root (thinLent heap roots «record») ⌝ }

@@ -29,8 +29,8 @@ pub enum Kind {
     Untraced,
 }
 
-// Why a call refuses, by document 01's and 02's numbers, which are names: the order in which refusals are given
-// is `rank` of the definitions.
+// Why a call refuses, by document 01's and 02's numbers, which are names: the order in which refusals are
+// given is `rank` of the definitions.
 pub enum Refusal {
     // The heap's length, the number of roots or the free index is outside its range.
     Shape,

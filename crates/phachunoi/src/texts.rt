@@ -11,8 +11,8 @@ use crossing::record_of;
 use crossing::result_of;
 use crossing::written_of;
 
-// The text of what a root holds, into the first of the bytes: how many; or SHAPE, ROOT, OBJECT, VALUE, DEEP or
-// TEXT, and then no byte changes.
+// The text of what a root holds, into the first of the bytes: how many; or SHAPE, ROOT, OBJECT, VALUE, DEEP
+// or TEXT, and then no byte changes.
 #[no_mangle]
 pub extern "C" fn phachunoi_write(
     heap: &[u32],

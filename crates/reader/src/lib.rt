@@ -1,8 +1,9 @@
-// The value of a text: read. It has no `requires`: it answers for every heap, roots, record and text that it is
-// lent, and its promise is one equation to its definition in `model`.
+// The value of a text: read. It has no `requires`: it answers for every heap, roots, record and text that it
+// is lent, and its promise is one equation to its definition in `model`.
 //
-// A refused reader changes nothing but by a collection, so the text is judged first: whether it is one, and how many
-// words its objects take. Where these are free it is gone over again, and each object is placed where it is met.
+// A refused reader changes nothing but by a collection, so the text is judged first: whether it is one, and
+// how many words its objects take. Where these are free it is gone over again, and each object is placed
+// where it is met.
 ghost use mathlib.Core.Path.{_≡_};
 ghost use mathlib.Core.Bool.{false};
 ghost use Prim.Native.Nat.{_<_};
@@ -25,8 +26,8 @@ use reader_judging::Judged;
 use reader_judging::judge;
 use words::tuple::Tuple;
 
-// The objects of a tuple's text from the free index on, and the address of the first into root `to`. The text takes
-// `words` words, which are free. Answers the new record.
+// The objects of a tuple's text from the free index on, and the address of the first into root `to`. The text
+// takes `words` words, which are free. Answers the new record.
 fn plant(
     heap: &mut [u32],
     roots: &mut [u32],
@@ -51,8 +52,8 @@ fn plant(
     }
 }
 
-// After a collection: done, DAMAGED with nothing changed, or ROOM with the heap collected. All roots count as live in
-// it, also what root `to` still holds.
+// After a collection: done, DAMAGED with nothing changed, or ROOM with the heap collected. All roots count as
+// live in it, also what root `to` still holds.
 fn retry(
     heap: &mut [u32],
     roots: &mut [u32],
@@ -100,9 +101,9 @@ fn read_tuple(
     retry(heap, roots, record, to, text, words)
 }
 
-// The value of a text into root `to`: done, or SHAPE, ROOT, VALUE, DEEP, DAMAGED or ROOM. An integer takes no words,
-// and is read even where the heap is damaged. If a tuple's words are free, nothing moves; if not, every object may
-// move, also where the answer is ROOM.
+// The value of a text into root `to`: done, or SHAPE, ROOT, VALUE, DEEP, DAMAGED or ROOM. An integer takes no
+// words, and is read even where the heap is damaged. If a tuple's words are free, nothing moves; if not,
+// every object may move, also where the answer is ROOM.
 pub fn read(heap: &mut [u32], roots: &mut [u32], record: Record, to: usize, text: &[u8]) -> Answered
     ensures { λ r. ⌜ outcomeText r heap roots text
         ≡ Calls.read Layouts.tuple to (lentText heap roots «record» text) ⌝ }

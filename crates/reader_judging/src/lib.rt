@@ -1,5 +1,5 @@
-// What a text stands for. A reader judges all of it before it changes anything: whether the bytes are a text, and
-// how many words its objects take. Nothing is written here.
+// What a text stands for. A reader judges all of it before it changes anything: whether the bytes are a text,
+// and how many words its objects take. Nothing is written here.
 ghost use mathlib.Core.Path.{_≡_};
 ghost use Prim.Native.Nat.{_≤_};
 ghost use Rattle.model.specs.Reading.{parsed, mostDigits, signed};

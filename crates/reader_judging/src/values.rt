@@ -1,6 +1,7 @@
-// A value reader and a tuple reader that call each other, with one level fewer each time round. They answer the
-// place behind what they read; 0 is a refusal, and then `words` holds why: so small an answer needs no memory.
-// What they count is added to `words`. A tuple takes no more than it has bytes, so that no sum is too large.
+// A value reader and a tuple reader that call each other, with one level fewer each time round. They answer
+// the place behind what they read; 0 is a refusal, and then `words` holds why: so small an answer needs no
+// memory. What they count is added to `words`. A tuple takes no more than it has bytes, so that no sum is too
+// large.
 ghost use mathlib.Core.Path.{_≡_};
 ghost use mathlib.Core.Bool.{_&&_};
 ghost use Prim.Native.Nat.{_+_, _≤_, _<_};
@@ -57,8 +58,8 @@ fn refuse(words: &mut usize, why: usize) -> usize
     0
 }
 
-// A value, with so many levels left. Tuples of one field may stand in each other many times over: they are gone
-// through by turns, not by calls.
+// A value, with so many levels left. Tuples of one field may stand in each other many times over: they are
+// gone through by turns, not by calls.
 fn value(text: &[u8], at: usize, depth: usize, words: &mut usize) -> usize
     requires { ⌜ Room 0 (now text) at (now words) ⌝ }
     ensures { λ r. ⌜ Reads start 0 depth (now (text .entry)) at (now (words .entry)) r
@@ -152,8 +153,8 @@ fn singles(text: &[u8], at: usize, depth: usize, words: &mut usize) -> usize
     end
 }
 
-// A value that is no tuple of one field. It is `value` but for that: one function that both call would be called
-// for each integer.
+// A value that is no tuple of one field. It is `value` but for that: one function that both call would be
+// called for each integer.
 fn innermost(text: &[u8], at: usize, depth: usize, words: &mut usize) -> usize
     requires { ⌜ (Room 0 (now text) at (now words)) × (Stuck (now text) at depth) ⌝ }
     ensures { λ r. ⌜ Reads start 0 depth (now (text .entry)) at (now (words .entry)) r

@@ -1,5 +1,5 @@
-// An integer of a text: its bytes from a place on, with the place behind them as the answer, or 0 where they are none.
-// What a digit is serves the reader's other pass too.
+// An integer of a text: its bytes from a place on, with the place behind them as the answer, or 0 where they
+// are none. What a digit is serves the reader's other pass too.
 ghost use mathlib.Core.Path.{_≡_};
 ghost use mathlib.Core.Bool.{false, cond};
 ghost use Prim.Native.Nat.{_+_, _≤_, _<_};

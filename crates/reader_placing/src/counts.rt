@@ -19,8 +19,8 @@ fn is_closer(byte: u8) -> bool
 }
 
 // Fills the words before `end`, from the right, with the counts of all tuples, in the order in which the
-// tuples open. Answers where the first stands. The text is taken backwards: a closer says that there is a field,
-// each comma that there is one more, and an opener with a closer right behind it that there was none.
+// tuples open. Answers where the first stands. The text is taken backwards: a closer says that there is a
+// field, each comma that there is one more, and an opener with a closer right behind it that there was none.
 pub fn count_fields(heap: &mut [u32], text: &[u8], end: usize) -> usize
     requires { ⌜ ((g : Forest) × Countable (now heap) (now text) end g) ⌝ }
     ensures { λ r. ⌜ ((g : Forest) → Countable (now (heap .entry)) (now (text .entry)) end g

@@ -3,8 +3,8 @@
 //
 // A tuple's header comes before its fields, and how many they are shows only at its closer. So the counts are
 // taken first, by one loop over the text from its end; they are kept in the last of the words that the text
-// will fill. An object that is placed never reaches a count that is still to be used, since each tuple that is
-// left takes a word at least.
+// will fill. An object that is placed never reaches a count that is still to be used, since each tuple that
+// is left takes a word at least.
 ghost use Rattle.model.specs.Trees.{Forest};
 ghost use Rattle.reader_placing.specs.Laying.{LaysOut, LaidFrom};
 

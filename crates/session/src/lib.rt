@@ -1,5 +1,5 @@
-// One session call, whichever it is, lent the bytes of a text, which only write and read look at. Its promise is `step` of the
-// definitions, so that demand 3 speaks about this code.
+// One session call, whichever it is, lent the bytes of a text, which only write and read look at. Its promise
+// is `step` of the definitions, so that demand 3 speaks about this code.
 ghost use mathlib.Core.Path.{_≡_};
 ghost use Rattle.model.specs.Headers as Layouts;
 ghost use Rattle.model.specs.Contracts.{lentText, outcomeText};

@@ -1,1 +1,2 @@
-// What follows from the definitions of `model`, for the proofs of the code and of the demands. It has no code.
+// What follows from the definitions of `model`, for the proofs of the code and of the demands. It has no
+// code.

@@ -68,8 +68,9 @@ fn header_of(heap: &[u32], word: u32) -> u32
     heap[at]
 }
 
-// What a root holds: null, an integer, a code word, or an object with its kind and field count; or SHAPE, ROOT
-// or OBJECT. Leaves all as it was. Of the heap it looks at the header that the root names, and at no field.
+// What a root holds: null, an integer, a code word, or an object with its kind and field count; or SHAPE,
+// ROOT or OBJECT. Leaves all as it was. Of the heap it looks at the header that the root names, and at no
+// field.
 pub fn inspect(heap: &[u32], roots: &[u32], record: Record, root: usize) -> Answered
     ensures { λ r. ⌜ outcome r heap roots ≡ Calls.inspect Layouts.tuple root (lent heap roots «record») ⌝ }
 {

@@ -1,10 +1,10 @@
-// How many bytes are left once a value is written, or why it has no text. A writer asks this before it changes
-// anything: nothing is written here.
+// How many bytes are left once a value is written, or why it has no text. A writer asks this before it
+// changes anything: nothing is written here.
 //
 // A value's measurer and a tuple's call each other, with one level fewer each time round. They answer by one
-// number, which is returned in a register where an enum goes through memory: from `REFUSED` up it says why. The
-// root's value has a measurer of its own, so that the other has one caller: the compiler then takes it into the
-// tuple's loop, where an integer costs no call.
+// number, which is returned in a register where an enum goes through memory: from `REFUSED` up it says why.
+// The root's value has a measurer of its own, so that the other has one caller: the compiler then takes it
+// into the tuple's loop, where an integer costs no call.
 ghost use mathlib.Core.Path.{_≡_};
 ghost use Prim.Native.Nat.{_+_, _<_};
 ghost use Rattle.model.specs.Texts.{maxDepth, valuePieces};

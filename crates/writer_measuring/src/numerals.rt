@@ -1,4 +1,5 @@
-// How many bytes an integer has: its digits are counted by comparisons, so that only what is written is divided.
+// How many bytes an integer has: its digits are counted by comparisons, so that only what is written is
+// divided.
 ghost use mathlib.Core.Path.{_≡_};
 ghost use Prim.Native.Nat.{_≤_};
 ghost use lib.ListN.{length};

@@ -1,9 +1,9 @@
-// The bytes of a value that was measured. Every byte has room and every word is an integer's or names a tuple, so
-// that nothing is tested; `first`, `free` and the levels are what it was measured by, and only the contracts have
-// a use for them.
+// The bytes of a value that was measured. Every byte has room and every word is an integer's or names a
+// tuple, so that nothing is tested; `first`, `free` and the levels are what it was measured by, and only the
+// contracts have a use for them.
 //
-// A value's writer and a tuple's call each other, with one level fewer each time round, and the root's value has a
-// writer of its own, as in `writer_measuring`.
+// A value's writer and a tuple's call each other, with one level fewer each time round, and the root's value
+// has a writer of its own, as in `writer_measuring`.
 ghost use mathlib.Core.Path.{_≡_};
 ghost use mathlib.Core.List.{map};
 ghost use Prim.Native.Nat.{_+_, _≤_, _<_};
@@ -49,7 +49,8 @@ fn spell_none(text: &mut [u8], at: usize) -> usize
 // The lead of a field: what stands before it.
 fn spell_lead(text: &mut [u8], at: usize, count: usize, field: usize) -> usize
     requires { ⌜ at + length (lead count field) ≤ length (now text) ⌝ }
-    ensures { λ r. ⌜ reached r (now (text .exit)) ≡ goes (map byte (lead count field)) at (now (text .entry)) ⌝ }
+    ensures { λ r. ⌜ reached r (now (text .exit))
+        ≡ goes (map byte (lead count field)) at (now (text .entry)) ⌝ }
 {
     if count == 1 {
         text[at] = ONE_OPENER;

@@ -20,53 +20,41 @@ use Rattle.reader_judging.proofs.signed_of.Reads as signed-of-reads
 use Rattle.reader_judging.proofs.values.is_opener.Reads as is-opener-reads
 use Rattle.reader_judging.proofs.values.outermost.Reads as outermost-reads
 
--- src/lib.rt:44:9
 returns : tie.Need-returns
 returns c = empty _ (c .if1 .taken)
 
--- src/lib.rt:46:17
 shared-slice-read-first : tie.Need-shared-slice-read-first
 shared-slice-read-first c = search needs
 
--- src/lib.rt:47:9
 is-opener-requires : tie.Need-is-opener-requires
 is-opener-requires c κs = search needs
 
--- src/lib.rt:49:13
 integer-requires : tie.Need-integer-requires
 integer-requires c κs = (omega arith, sym (c .before .before .is-opener .ensures) ∙ not-true _ (c .before .if2 .taken))
 
--- src/lib.rt:51:13
 returns-2 : tie.Need-returns-2
 returns-2 c = no-integer _ _ _ (c .before .integer .ensures) (λ e. omega arith)
 
--- src/lib.rt:53:32
 signed-of-requires : tie.Need-signed-of-requires
 signed-of-requires c κs = small _ _ _ (c .before .integer .ensures) (omega arith) (omega arith)
 
--- src/lib.rt:53:9
 returns-3 : tie.Need-returns-3
 returns-3 c = an-integer _ _ _ (c .before .before .integer .ensures) (omega arith) (omega arith) _
     (ap (λ (z : ℤ). toZ w32 (ofZ w32 z)) (c .signed-of .ensures)
     ∙ toZ-ofZ w32 _ (signed-fits (negative (c .before .before .before .before .before .before .before .before .before .args .text .now) 0) _ (small _ _ _ (c .before .before .integer .ensures) (omega arith) (omega arith))))
 
--- src/lib.rt:57:9
 outermost-requires : tie.Need-outermost-requires
 outermost-requires c κs = record { some = omega arith; begins = refl; opens = sym (c .before .before .is-opener .ensures) ∙ not-false _ (c .before .if2 .left); words = refl }
 
--- src/lib.rt:59:9
 returns-4 : tie.Need-returns-4
 returns-4 c = a-tuple _ _ _ (c .before .outermost .ensures) (omega arith) (sym (c .before .before .before .before .is-opener .ensures) ∙ not-false _ (c .before .before .before .if2 .left)) (omega arith)
 
--- src/lib.rt:62:9
 returns-5 : tie.Need-returns-5
 returns-5 c = more-behind _ _ _ (c .before .before .outermost .ensures) (λ e. omega arith) (c .if5 .taken)
 
--- src/lib.rt:65:9
 returns-6 : tie.Need-returns-6
 returns-6 c = deep _ _ _ (c .before .before .before .outermost .ensures) (c .before .if5 .left) (c .if6 .taken)
 
--- src/lib.rt:40:1
 returns-7 : tie.Need-returns-7
 returns-7 c = no-value _ _ _ (c .before .before .before .outermost .ensures) (c .before .if5 .left) (c .if6 .left)
 

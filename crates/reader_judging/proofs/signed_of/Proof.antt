@@ -38,32 +38,25 @@ is c =
     ap (λ (z : ℤ). negsuc 0 -ℤ z) (toZ-pos w32 (a .number - 1) (omega (arith, c .before .before .pre, most-high (a .negative))))
     ∙ below (a .number - 1)
 
--- src/lib.rt:32:16
 cast-result : tie.Need-cast-result
 cast-result c = record { sfits = omega (arith, c .before .pre, most-high (c .before .args .negative)) }
 
--- src/lib.rt:32:9
 returns : tie.Need-returns
 returns c = toZ-pos w32 (c .before .args .number) (omega (arith, c .before .pre, most-high (c .before .args .negative)))
     ∙ plain _ _ (not-true (c .before .args .negative) (c .if1 .taken))
 
--- src/lib.rt:35:9
 returns-2 : tie.Need-returns-2
 returns-2 c = sym (ap (λ (n : ℕ). signed (c .before .before .args .negative) n) (c .if2 .taken) ∙ signed-zero (c .before .before .args .negative))
 
--- src/lib.rt:37:18
 sub-below : tie.Need-sub-below
 sub-below c = search needs
 
--- src/lib.rt:37:17
 cast-below : tie.Need-cast-below
 cast-below c = record { sfits = omega (arith, c .before .before .pre, most-high (c .before .before .args .negative)) }
 
--- src/lib.rt:38:5
 sub-result : tie.Need-sub-result
 sub-result c = rw (is c) (record { sfits = omega (arith, c .before .before .pre, most-high (c .before .before .args .negative)) })
 
--- src/lib.rt:27:1
 returns-3 : tie.Need-returns-3
 returns-3 c = ap (λ (z : ℤ). toZ w32 (ofZ w32 z)) (is c)
     ∙ toZ-ofZ w32 (negsuc (c .before .before .args .number - 1)) (record { sfits = omega (arith, c .before .before .pre, most-high (c .before .before .args .negative)) })

@@ -1,4 +1,4 @@
--- `reader_judging::numerals::digits` meets its contract. The loop's invariant: what follows the first digit comes to what follows the
+-- `reader_numerals::digits` meets its contract. The loop's invariant: what follows the first digit comes to what follows the
 -- digits up to the present place, whose number has as many digits.
 use Prim.Native.Nat.{ℕ, suc, _+_, _-_, _*_, _≤_, _<_}
 use native.Mathlib.Omega.{arith}
@@ -27,27 +27,21 @@ Inv-loop text from number₀ last total₀ place₀ number total place = (from <
 abbrev μ-loop : tie.MeasureT-loop
 μ-loop text from number₀ last total₀ place₀ number total place = last - place
 
--- src/numerals.rt:44:9
 last-of-requires : tie.Need-last-of-requires Inv-loop μ-loop
 last-of-requires c κs = search needs
 
--- src/numerals.rt:45:22
 shared-slice-read-total : tie.Need-shared-slice-read-total Inv-loop μ-loop
 shared-slice-read-total c = search needs
 
--- src/numerals.rt:45:22
 sub-total : tie.Need-sub-total Inv-loop μ-loop
 sub-total c = omega (arith, c .before .before .before .pre .1)
 
--- src/numerals.rt:45:21
 cast-total : tie.Need-cast-total Inv-loop μ-loop
 cast-total c = omega (arith, c .before .before .before .pre .1)
 
--- src/numerals.rt:46:21
 add-place : tie.Need-add-place Inv-loop μ-loop
 add-place c = search needs
 
--- src/numerals.rt:47:5
 loop-holds : tie.Need-loop-holds Inv-loop μ-loop
 loop-holds c = let a = c .before .before .before .args in
     let p = c .before .before .before .pre .1 in (
@@ -57,15 +51,12 @@ loop-holds c = let a = c .before .before .before .args in
       λ neg o. ap (λ (x : Next). rest (a .text .now) x (a .from + 1)) (first-so-far neg _ o (omega (arith, p .1))),
     )
 
--- src/numerals.rt:48:20
 shared-slice-read-byte : tie.Need-shared-slice-read-byte Inv-loop μ-loop
 shared-slice-read-byte c = search needs
 
--- src/numerals.rt:49:13
 is-digit-requires : tie.Need-is-digit-requires Inv-loop μ-loop
 is-digit-requires c κs = search needs
 
--- src/numerals.rt:51:13
 returns : tie.Need-returns Inv-loop μ-loop
 returns c = let l = c .before .before .before .before .loop in record {
   beyond = omega arith;
@@ -75,20 +66,16 @@ returns c = let l = c .before .before .before .before .loop in record {
       (λ h d. never d (sym (c .before .is-digit .ensures) ∙ not-true _ (c .if1 .taken)));
 }
 
--- src/numerals.rt:53:17
 mul-total : tie.Need-mul-total Inv-loop μ-loop
 mul-total c = let l = c .before .before .before .before .loop in
     omega (arith, size-fits (l .place - c .before .before .before .before .before .before .before .before .args .from) (l .total) (omega (arith, c .before .before .before .before .before .before .last-of .ensures)) (l .inv .2))
 
--- src/numerals.rt:53:31
 sub-total-2 : tie.Need-sub-total-2 Inv-loop μ-loop
 sub-total-2 c = omega (arith, digit-bounds (getD (c .before .before .before .before .before .before .before .before .args .text .now) (c .before .before .before .before .loop .place) 0) (sym (c .before .is-digit .ensures) ∙ not-false _ (c .if1 .left)) .0)
 
--- src/numerals.rt:53:30
 cast-total-2 : tie.Need-cast-total-2 Inv-loop μ-loop
 cast-total-2 c = omega (arith, digit-bounds (getD (c .before .before .before .before .before .before .before .before .args .text .now) (c .before .before .before .before .loop .place) 0) (sym (c .before .is-digit .ensures) ∙ not-false _ (c .if1 .left)) .1)
 
--- src/numerals.rt:53:17
 add-total : tie.Need-add-total Inv-loop μ-loop
 add-total c = let l = c .before .before .before .before .loop in
     omega (
@@ -97,15 +84,12 @@ add-total c = let l = c .before .before .before .before .loop in
       size-fits (l .place - c .before .before .before .before .before .before .before .before .args .from) (l .total) (omega (arith, c .before .before .before .before .before .before .last-of .ensures)) (l .inv .2),
     )
 
--- src/numerals.rt:54:9
 add-place-2 : tie.Need-add-place-2 Inv-loop μ-loop
 add-place-2 c = search needs
 
--- src/numerals.rt:47:5
 loop-less : tie.Need-loop-less Inv-loop μ-loop
 loop-less c = search needs
 
--- src/numerals.rt:47:5
 loop-again : tie.Need-loop-again Inv-loop μ-loop
 loop-again c = let a = c .before .before .before .before .before .before .before .before .args in
     let l = c .before .before .before .before .loop in
@@ -118,7 +102,6 @@ loop-again c = let a = c .before .before .before .before .before .before .before
           ∙ step-to (a .text .now) _ _ (l .place) (omega (arith, c .before .before .before .before .before .before .last-of .ensures .1)) (one-more neg (l .total) o _ (size-some _ _ s) (p .0) (p .1)),
     )
 
--- src/numerals.rt:40:1
 returns-2 : tie.Need-returns-2 Inv-loop μ-loop
 returns-2 c = let l = c .before .loop in
     let e = c .before .before .before .last-of .ensures in

@@ -1,5 +1,5 @@
+-- `reader_numerals::integer` meets its contract.
 use lib.ListN.{getD}
--- `reader_judging::numerals::integer` meets its contract.
 use Prim.Native.Nat.{ℕ, _+_, _≤_}
 use native.Mathlib.Omega.{arith}
 use Rattle.reader_numerals.proofs.Naturals.{just-zero, with-sign, sign-small}
@@ -11,35 +11,27 @@ use Rattle.reader_numerals.proofs.integer.Lts as lts
 use Rattle.reader_numerals.proofs.natural.Reads as natural-reads
 use Rattle.reader_numerals.proofs.sign_bytes.Reads as sign-bytes-reads
 
--- src/numerals.rt:98:17
 shared-slice-read-first : tie.Need-shared-slice-read-first
 shared-slice-read-first c = search needs
 
--- src/numerals.rt:101:16
 add-result : tie.Need-add-result
 add-result c = search needs
 
--- src/numerals.rt:101:9
 returns : tie.Need-returns
 returns c = just-zero _ _ (c .before .before .before .pre .0) _ (c .if1 .taken) (omega arith)
 
--- src/numerals.rt:103:9
 sign-bytes-requires : tie.Need-sign-bytes-requires
 sign-bytes-requires c κs = search needs
 
--- src/numerals.rt:104:19
 add-natural : tie.Need-add-natural
 add-natural c = omega (arith, sign-small (getD (c .before .before .before .before .args .text .now) (c .before .before .before .before .args .at) 0) _ (c .sign-bytes .ensures), c .before .before .before .before .pre .0)
 
--- src/numerals.rt:104:30
 add-natural-2 : tie.Need-add-natural-2
 add-natural-2 c = omega (arith, sign-small (getD (c .before .before .before .before .args .text .now) (c .before .before .before .before .args .at) 0) _ (c .sign-bytes .ensures))
 
--- src/numerals.rt:104:5
 natural-requires : tie.Need-natural-requires
 natural-requires c κs = omega (arith, sign-small (getD (c .before .before .before .before .before .args .text .now) (c .before .before .before .before .before .args .at) 0) _ (c .before .sign-bytes .ensures), c .before .before .before .before .before .pre .0)
 
--- src/numerals.rt:94:1
 returns-2 : tie.Need-returns-2
 returns-2 c = with-sign _ _ (c .before .before .before .before .before .before .pre .0) _ _ _ (c .before .before .sign-bytes .ensures) (c .before .before .before .if1 .left) (c .before .before .before .before .before .before .pre .1)
     (c .natural .ensures)

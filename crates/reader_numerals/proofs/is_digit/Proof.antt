@@ -1,4 +1,4 @@
--- `reader_judging::numerals::is_digit` meets its contract.
+-- `reader_numerals::is_digit` meets its contract.
 use borrow.Author.Tests.{le-leb, lt-leb}
 use native.Mathlib.Omega.{arith}
 use Rattle.reader_numerals.proofs.is_digit.Statement.{statement}
@@ -6,11 +6,9 @@ use Rattle.reader_numerals.proofs.is_digit.Tie as tie
 use Rattle.reader_numerals.proofs.is_digit.Reads as reads
 use Rattle.reader_numerals.proofs.is_digit.Lts as lts
 
--- src/numerals.rt:22:1
 returns : tie.Need-returns
 returns c = simp (le-leb 48 (c .before .args .byte) (omega arith))
 
--- src/numerals.rt:22:1
 returns-2 : tie.Need-returns-2
 returns-2 c = simp (lt-leb 48 (c .before .args .byte) (omega arith))
 

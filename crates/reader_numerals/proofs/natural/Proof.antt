@@ -1,4 +1,4 @@
--- `reader_judging::numerals::natural` meets its contract.
+-- `reader_numerals::natural` meets its contract.
 use Prim.Native.Nat.{_≤_, _<_}
 use native.Mathlib.Omega.{arith}
 use Rattle.reader_numerals.proofs.Naturals.{none-left, none-low, none-high, too-large, in-range}
@@ -9,31 +9,24 @@ use Rattle.reader_numerals.proofs.natural.Reads as reads
 use Rattle.reader_numerals.proofs.natural.Lts as lts
 use Rattle.reader_numerals.proofs.digits.Reads as digits-reads
 
--- src/numerals.rt:66:9
 returns : tie.Need-returns
 returns c = none-left _ _ _ _ (c .if1 .taken)
 
--- src/numerals.rt:68:17
 shared-slice-read-first : tie.Need-shared-slice-read-first
 shared-slice-read-first c = search needs
 
--- src/numerals.rt:70:9
 returns-2 : tie.Need-returns-2
 returns-2 c = none-low _ _ _ _ (omega arith) (omega arith)
 
--- src/numerals.rt:73:9
 returns-3 : tie.Need-returns-3
 returns-3 c = none-high _ _ _ _ (omega arith) (omega arith)
 
--- src/numerals.rt:75:9
 digits-requires : tie.Need-digits-requires
 digits-requires c κs = search needs
 
--- src/numerals.rt:78:9
 returns-4 : tie.Need-returns-4
 returns-4 c = too-large _ _ _ _ _ (omega arith) (omega arith, omega arith) (c .before .before .digits .ensures) (omega arith)
 
--- src/numerals.rt:61:1
 returns-5 : tie.Need-returns-5
 returns-5 c = in-range _ _ _ _ _ (omega arith) (omega arith, omega arith) (c .before .before .digits .ensures) (omega arith)
 

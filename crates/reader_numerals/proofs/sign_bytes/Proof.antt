@@ -1,15 +1,13 @@
--- `reader_judging::numerals::sign_bytes` meets its contract.
+-- `reader_numerals::sign_bytes` meets its contract.
 use borrow.Author.Tests.{eq-eqb, ne-eqb}
 use Rattle.reader_numerals.proofs.sign_bytes.Statement.{statement}
 use Rattle.reader_numerals.proofs.sign_bytes.Tie as tie
 use Rattle.reader_numerals.proofs.sign_bytes.Reads as reads
 use Rattle.reader_numerals.proofs.sign_bytes.Lts as lts
 
--- src/numerals.rt:88:9
 returns : tie.Need-returns
 returns c = simp (eq-eqb _ _ (c .if1 .taken))
 
--- src/numerals.rt:84:1
 returns-2 : tie.Need-returns-2
 returns-2 c = simp (ne-eqb _ _ (c .if1 .left))
 

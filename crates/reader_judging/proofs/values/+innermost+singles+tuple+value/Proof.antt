@@ -73,7 +73,6 @@ value-at t = and 2 value-kinds.ps (is 2 value-kinds.ps μ-value t) value.Pre
 abbrev value-below : ℕ → In 2 value-kinds.ps
 value-below t = and 2 value-kinds.ps (falls 2 value-kinds.ps _<_ μ-value t) value.Pre
 
--- src/values.rt:164:9
 innermost-refuse-requires : (t : ℕ) → innermost-lts.Need-refuse-requires (
   refuse-reads.Asked,
   refuse-reads.Learnt,
@@ -86,7 +85,6 @@ innermost-refuse-requires : (t : ℕ) → innermost-lts.Need-refuse-requires (
 ) (innermost-at t) innermost.Post
 innermost-refuse-requires t c κs = search needs
 
--- src/values.rt:164:9
 innermost-returns : (t : ℕ) → innermost-lts.Need-returns (
   refuse-reads.Asked,
   refuse-reads.Learnt,
@@ -99,7 +97,6 @@ innermost-returns : (t : ℕ) → innermost-lts.Need-returns (
 ) (innermost-at t) innermost.Post
 innermost-returns t c = nothing (c .before .before .before .before .args .depth) (c .before .before .before .before .args .text .now) (c .before .before .before .before .args .at) (c .before .before .before .before .args .words .now) _ _ (c .before .before .if1 .taken) (c .refuse .ensures .0) (c .refuse .ensures .1)
 
--- src/values.rt:166:16
 innermost-shared-slice-read-byte : (t : ℕ) → innermost-lts.Need-shared-slice-read-byte (
   refuse-reads.Asked,
   refuse-reads.Learnt,
@@ -112,7 +109,6 @@ innermost-shared-slice-read-byte : (t : ℕ) → innermost-lts.Need-shared-slice
 ) (innermost-at t) innermost.Post
 innermost-shared-slice-read-byte t c = search needs
 
--- src/values.rt:167:9
 innermost-is-opener-requires : (t : ℕ) → innermost-lts.Need-is-opener-requires (
   refuse-reads.Asked,
   refuse-reads.Learnt,
@@ -125,7 +121,6 @@ innermost-is-opener-requires : (t : ℕ) → innermost-lts.Need-is-opener-requir
 ) (innermost-at t) innermost.Post
 innermost-is-opener-requires t c κs = search needs
 
--- src/values.rt:169:13
 innermost-integer-requires : (t : ℕ) → innermost-lts.Need-integer-requires (
   refuse-reads.Asked,
   refuse-reads.Learnt,
@@ -138,7 +133,6 @@ innermost-integer-requires : (t : ℕ) → innermost-lts.Need-integer-requires (
 ) (innermost-at t) innermost.Post
 innermost-integer-requires t c κs = (omega (arith, c .before .before .before .before .before .before .pre .1 .0 .within), sym (c .before .before .is-opener .ensures) ∙ not-true _ (c .before .if2 .taken))
 
--- src/values.rt:171:13
 innermost-refuse-requires-2 : (t : ℕ) → innermost-lts.Need-refuse-requires-2 (
   refuse-reads.Asked,
   refuse-reads.Learnt,
@@ -151,7 +145,6 @@ innermost-refuse-requires-2 : (t : ℕ) → innermost-lts.Need-refuse-requires-2
 ) (innermost-at t) innermost.Post
 innermost-refuse-requires-2 t c κs = search needs
 
--- src/values.rt:171:13
 innermost-returns-2 : (t : ℕ) → innermost-lts.Need-returns-2 (
   refuse-reads.Asked,
   refuse-reads.Learnt,
@@ -164,7 +157,6 @@ innermost-returns-2 : (t : ℕ) → innermost-lts.Need-returns-2 (
 ) (innermost-at t) innermost.Post
 innermost-returns-2 t c = no-integer (c .before .before .before .before .before .before .before .before .before .before .args .depth) (c .before .before .before .before .before .before .before .before .before .before .args .text .now) (c .before .before .before .before .before .before .before .before .before .before .args .at) (c .before .before .before .before .before .before .before .before .before .before .args .words .now) _ _ _ _ (c .before .before .before .integer .ensures) (c .before .before .if3 .taken) (c .refuse2 .ensures .0) (c .refuse2 .ensures .1)
 
--- src/values.rt:173:9
 innermost-returns-3 : (t : ℕ) → innermost-lts.Need-returns-3 (
   refuse-reads.Asked,
   refuse-reads.Learnt,
@@ -177,7 +169,6 @@ innermost-returns-3 : (t : ℕ) → innermost-lts.Need-returns-3 (
 ) (innermost-at t) innermost.Post
 innermost-returns-3 t c = an-integer (c .before .before .before .before .before .before .before .before .args .depth) (c .before .before .before .before .before .before .before .before .args .text .now) (c .before .before .before .before .before .before .before .before .args .at) (c .before .before .before .before .before .before .before .before .args .words .now) _ _ _ (sym (c .before .before .before .before .is-opener .ensures) ∙ not-true _ (c .before .before .before .if2 .taken)) (c .before .integer .ensures) (c .if3 .left) refl
 
--- src/values.rt:176:9
 innermost-refuse-requires-3 : (t : ℕ) → innermost-lts.Need-refuse-requires-3 (
   refuse-reads.Asked,
   refuse-reads.Learnt,
@@ -190,7 +181,6 @@ innermost-refuse-requires-3 : (t : ℕ) → innermost-lts.Need-refuse-requires-3
 ) (innermost-at t) innermost.Post
 innermost-refuse-requires-3 t c κs = search needs
 
--- src/values.rt:176:9
 innermost-returns-4 : (t : ℕ) → innermost-lts.Need-returns-4 (
   refuse-reads.Asked,
   refuse-reads.Learnt,
@@ -204,7 +194,6 @@ innermost-returns-4 : (t : ℕ) → innermost-lts.Need-returns-4 (
 innermost-returns-4 t c = too-deep (c .before .before .before .before .before .before .before .before .args .depth) (c .before .before .before .before .before .before .before .before .args .text .now) (c .before .before .before .before .before .before .before .before .args .at) (c .before .before .before .before .before .before .before .before .args .words .now) _ _ (omega (arith, c .before .before .before .before .before .before .before .before .pre .1 .0 .within)) (sym (c .before .before .before .before .is-opener .ensures) ∙ not-false _ (c .before .before .before .if2 .left)) (c .before .before .if4 .taken)
     (c .refuse3 .ensures .0) (c .refuse3 .ensures .1)
 
--- src/values.rt:179:9
 innermost-refuse-requires-4 : (t : ℕ) → innermost-lts.Need-refuse-requires-4 (
   refuse-reads.Asked,
   refuse-reads.Learnt,
@@ -217,7 +206,6 @@ innermost-refuse-requires-4 : (t : ℕ) → innermost-lts.Need-refuse-requires-4
 ) (innermost-at t) innermost.Post
 innermost-refuse-requires-4 t c κs = search needs
 
--- src/values.rt:179:9
 innermost-returns-5 : (t : ℕ) → innermost-lts.Need-returns-5 (
   refuse-reads.Asked,
   refuse-reads.Learnt,
@@ -231,7 +219,6 @@ innermost-returns-5 : (t : ℕ) → innermost-lts.Need-returns-5 (
 innermost-returns-5 t c = stuck (c .before .before .before .before .before .before .before .before .before .args .depth) (c .before .before .before .before .before .before .before .before .before .args .text .now) (c .before .before .before .before .before .before .before .before .before .args .at) (c .before .before .before .before .before .before .before .before .before .args .words .now) _ _ (omega (arith, c .before .before .before .before .before .before .before .before .before .pre .1 .0 .within)) (sym (c .before .before .before .before .before .is-opener .ensures) ∙ not-false _ (c .before .before .before .before .if2 .left)) (c .before .before .if5 .taken) (c .before .before .before .if4 .left) (c .before .before .before .before .before .before .before .before .before .pre .1 .1)
     (c .refuse4 .ensures .0) (c .refuse4 .ensures .1)
 
--- src/values.rt:181:17
 innermost-add-tuple : (t : ℕ) → innermost-lts.Need-add-tuple (
   refuse-reads.Asked,
   refuse-reads.Learnt,
@@ -244,7 +231,6 @@ innermost-add-tuple : (t : ℕ) → innermost-lts.Need-add-tuple (
 ) (innermost-at t) innermost.Post
 innermost-add-tuple t c = omega (arith, c .before .before .before .before .before .before .before .pre .1 .0 .within)
 
--- src/values.rt:181:25
 innermost-sub-tuple : (t : ℕ) → innermost-lts.Need-sub-tuple (
   refuse-reads.Asked,
   refuse-reads.Learnt,
@@ -257,7 +243,6 @@ innermost-sub-tuple : (t : ℕ) → innermost-lts.Need-sub-tuple (
 ) (innermost-at t) innermost.Post
 innermost-sub-tuple t c = pos-of-ne-zero (c .before .if4 .left)
 
--- src/values.rt:181:5
 innermost-tuple-requires : (t : ℕ) → innermost-lts.Need-tuple-requires (
   refuse-reads.Asked,
   refuse-reads.Learnt,
@@ -274,7 +259,6 @@ innermost-tuple-requires t c κs = let p = c .before .before .before .before .be
       record { within = omega (arith, p .within); words = omega (arith, p .words) },
     )
 
--- src/values.rt:158:1
 innermost-returns-6 : (t : ℕ) → innermost-lts.Need-returns-6 (
   refuse-reads.Asked,
   refuse-reads.Learnt,
@@ -287,7 +271,6 @@ innermost-returns-6 : (t : ℕ) → innermost-lts.Need-returns-6 (
 ) (innermost-at t) innermost.Post
 innermost-returns-6 t c = a-tuple (c .before .before .before .before .before .before .before .before .before .args .depth) (c .before .before .before .before .before .before .before .before .before .args .text .now) (c .before .before .before .before .before .before .before .before .before .args .at) (c .before .before .before .before .before .before .before .before .before .args .words .now) _ _ (omega (arith, c .before .before .before .before .before .before .before .before .before .pre .1 .0 .within)) (c .before .before .before .if4 .left) (c .before .before .if5 .left) (c .tuple .ensures)
 
--- src/values.rt:142:9
 singles-openings-requires : (t : ℕ) → singles-lts.Need-openings-requires (
   openings-reads.Asked,
   openings-reads.Learnt,
@@ -300,7 +283,6 @@ singles-openings-requires : (t : ℕ) → singles-lts.Need-openings-requires (
 ) (singles-at t) singles.Post
 singles-openings-requires t c κs = search needs
 
--- src/values.rt:143:38
 singles-mul-innermost : (t : ℕ) → singles-lts.Need-mul-innermost (
   openings-reads.Asked,
   openings-reads.Learnt,
@@ -313,7 +295,6 @@ singles-mul-innermost : (t : ℕ) → singles-lts.Need-mul-innermost (
 ) (singles-at t) singles.Post
 singles-mul-innermost t c = omega (arith, c .openings .ensures .within)
 
--- src/values.rt:143:33
 singles-add-innermost : (t : ℕ) → singles-lts.Need-add-innermost (
   openings-reads.Asked,
   openings-reads.Learnt,
@@ -326,7 +307,6 @@ singles-add-innermost : (t : ℕ) → singles-lts.Need-add-innermost (
 ) (singles-at t) singles.Post
 singles-add-innermost t c = omega (arith, c .openings .ensures .within)
 
--- src/values.rt:143:50
 singles-sub-innermost : (t : ℕ) → singles-lts.Need-sub-innermost (
   openings-reads.Asked,
   openings-reads.Learnt,
@@ -339,7 +319,6 @@ singles-sub-innermost : (t : ℕ) → singles-lts.Need-sub-innermost (
 ) (singles-at t) singles.Post
 singles-sub-innermost t c = c .openings .ensures .most
 
--- src/values.rt:143:9
 singles-innermost-requires : (t : ℕ) → singles-lts.Need-innermost-requires (
   openings-reads.Asked,
   openings-reads.Learnt,
@@ -355,7 +334,6 @@ singles-innermost-requires t c κs = (
   (inner-room (c .before .before .before .args .depth) (c .before .before .before .args .text .now) (c .before .before .before .args .at) (c .before .before .before .args .words .now) _ (c .before .openings .ensures) (c .before .before .before .pre .1), c .before .openings .ensures .stuck),
 )
 
--- src/values.rt:145:9
 singles-returns : (t : ℕ) → singles-lts.Need-returns (
   openings-reads.Asked,
   openings-reads.Learnt,
@@ -368,7 +346,6 @@ singles-returns : (t : ℕ) → singles-lts.Need-returns (
 ) (singles-at t) singles.Post
 singles-returns t c = no-inner (c .before .before .before .before .before .args .depth) (c .before .before .before .before .before .args .text .now) (c .before .before .before .before .before .args .at) (c .before .before .before .before .before .args .words .now) _ (c .before .before .before .openings .ensures) _ _ (c .before .innermost .ensures) _ _ (c .if1 .taken) refl refl
 
--- src/values.rt:147:9
 singles-closings-requires : (t : ℕ) → singles-lts.Need-closings-requires (
   openings-reads.Asked,
   openings-reads.Learnt,
@@ -381,7 +358,6 @@ singles-closings-requires : (t : ℕ) → singles-lts.Need-closings-requires (
 ) (singles-at t) singles.Post
 singles-closings-requires t c κs = let s = sums (c .before .before .before .before .before .args .depth) (c .before .before .before .before .before .args .text .now) (c .before .before .before .before .before .args .at) (c .before .before .before .before .before .args .words .now) _ (c .before .before .before .openings .ensures) _ _ (c .before .innermost .ensures) (c .if1 .left) (c .before .before .before .before .before .pre .1) in (s .1, s .2)
 
--- src/values.rt:149:9
 singles-refuse-requires : (t : ℕ) → singles-lts.Need-refuse-requires (
   openings-reads.Asked,
   openings-reads.Learnt,
@@ -394,7 +370,6 @@ singles-refuse-requires : (t : ℕ) → singles-lts.Need-refuse-requires (
 ) (singles-at t) singles.Post
 singles-refuse-requires t c κs = search needs
 
--- src/values.rt:149:9
 singles-returns-2 : (t : ℕ) → singles-lts.Need-returns-2 (
   openings-reads.Asked,
   openings-reads.Learnt,
@@ -408,7 +383,6 @@ singles-returns-2 : (t : ℕ) → singles-lts.Need-returns-2 (
 singles-returns-2 t c = not-closed (c .before .before .before .before .before .before .before .before .before .args .depth) (c .before .before .before .before .before .before .before .before .before .args .text .now) (c .before .before .before .before .before .before .before .before .before .args .at) (c .before .before .before .before .before .before .before .before .before .args .words .now) _ (c .before .before .before .before .before .before .before .openings .ensures) _ _ (c .before .before .before .before .before .innermost .ensures) (c .before .before .before .before .if1 .left) _
     (c .before .before .before .closings .ensures) _ _ (c .before .before .if2 .taken) (c .refuse .ensures .0) (c .refuse .ensures .1)
 
--- src/values.rt:151:15
 singles-mul-words : (t : ℕ) → singles-lts.Need-mul-words (
   openings-reads.Asked,
   openings-reads.Learnt,
@@ -421,7 +395,6 @@ singles-mul-words : (t : ℕ) → singles-lts.Need-mul-words (
 ) (singles-at t) singles.Post
 singles-mul-words t c = omega (arith, c .before .before .before .before .before .openings .ensures .within)
 
--- src/values.rt:151:5
 singles-add-words : (t : ℕ) → singles-lts.Need-add-words (
   openings-reads.Asked,
   openings-reads.Learnt,
@@ -434,7 +407,6 @@ singles-add-words : (t : ℕ) → singles-lts.Need-add-words (
 ) (singles-at t) singles.Post
 singles-add-words t c = let s = sums (c .before .before .before .before .before .before .before .before .args .depth) (c .before .before .before .before .before .before .before .before .args .text .now) (c .before .before .before .before .before .before .before .before .args .at) (c .before .before .before .before .before .before .before .before .args .words .now) _ (c .before .before .before .before .before .before .openings .ensures) _ _ (c .before .before .before .before .innermost .ensures) (c .before .before .before .if1 .left) (c .before .before .before .before .before .before .before .before .pre .1) in omega (arith, s .0, s .1)
 
--- src/values.rt:137:1
 singles-returns-3 : (t : ℕ) → singles-lts.Need-returns-3 (
   openings-reads.Asked,
   openings-reads.Learnt,
@@ -454,7 +426,6 @@ tuple-Inv-loop text at depth words₀ place₀ fields₀ words place fields = Fi
 abbrev tuple-μ-loop : tuple-lts.MeasureT-loop
 tuple-μ-loop text at depth words₀ place₀ fields₀ words place fields = length text - place
 
--- src/values.rt:190:8
 tuple-is-at-requires : (t : ℕ) → tuple-lts.Need-is-at-requires (
   is-at-reads.Asked,
   is-at-reads.Learnt,
@@ -465,7 +436,6 @@ tuple-is-at-requires : (t : ℕ) → tuple-lts.Need-is-at-requires (
 ) (tuple-at t) tuple.Post tuple-Inv-loop tuple-μ-loop
 tuple-is-at-requires t c κs = search needs
 
--- src/values.rt:191:9
 tuple-add-words : (t : ℕ) → tuple-lts.Need-add-words (
   is-at-reads.Asked,
   is-at-reads.Learnt,
@@ -476,7 +446,6 @@ tuple-add-words : (t : ℕ) → tuple-lts.Need-add-words (
 ) (tuple-at t) tuple.Post tuple-Inv-loop tuple-μ-loop
 tuple-add-words t c = omega (arith, c .before .before .before .before .pre .1)
 
--- src/values.rt:193:16
 tuple-add-result : (t : ℕ) → tuple-lts.Need-add-result (
   is-at-reads.Asked,
   is-at-reads.Learnt,
@@ -487,7 +456,6 @@ tuple-add-result : (t : ℕ) → tuple-lts.Need-add-result (
 ) (tuple-at t) tuple.Post tuple-Inv-loop tuple-μ-loop
 tuple-add-result t c = omega (arith, there (c .before .before .before .before .args .text .now) (c .before .before .before .before .args .at) 41 _ (c .before .before .is-at .ensures) (c .before .if1 .taken) .0)
 
--- src/values.rt:193:9
 tuple-returns : (t : ℕ) → tuple-lts.Need-returns (
   is-at-reads.Asked,
   is-at-reads.Learnt,
@@ -498,7 +466,6 @@ tuple-returns : (t : ℕ) → tuple-lts.Need-returns (
 ) (tuple-at t) tuple.Post tuple-Inv-loop tuple-μ-loop
 tuple-returns t c = let h = there (c .before .before .before .before .args .text .now) (c .before .before .before .before .args .at) 41 _ (c .before .before .is-at .ensures) (c .before .if1 .taken) in no-fields (c .before .before .before .before .args .depth) (c .before .before .before .before .args .text .now) (c .before .before .before .before .args .at) (c .before .before .before .before .args .words .now) (h .0) (h .1)
 
--- src/values.rt:197:5
 tuple-loop-holds : (t : ℕ) → tuple-lts.Need-loop-holds (
   is-at-reads.Asked,
   is-at-reads.Learnt,
@@ -510,7 +477,6 @@ tuple-loop-holds : (t : ℕ) → tuple-lts.Need-loop-holds (
 tuple-loop-holds t c = first-field (c .before .before .before .args .depth) (c .before .before .before .args .text .now) (c .before .before .before .args .at) (c .before .before .before .args .words .now) (c .before .before .before .pre .1 .within)
     (not-there (c .before .before .before .args .text .now) (c .before .before .before .args .at) 41 _ (c .before .is-at .ensures) (c .if1 .left))
 
--- src/values.rt:198:13
 tuple-value-requires : (t : ℕ) → tuple-lts.Need-value-requires (
   is-at-reads.Asked,
   is-at-reads.Learnt,
@@ -521,7 +487,6 @@ tuple-value-requires : (t : ℕ) → tuple-lts.Need-value-requires (
 ) (tuple-at t) tuple.Post tuple-Inv-loop tuple-μ-loop
 tuple-value-requires t c κs = (omega (arith, c .before .before .before .before .before .pre .0), field-room (c .before .before .before .before .before .args .depth) (c .before .before .before .before .before .args .text .now) (c .before .before .before .before .before .args .at) (c .before .before .before .before .before .args .words .now) _ _ _ (c .before .loop .inv) (c .before .before .before .before .before .pre .1))
 
--- src/values.rt:200:13
 tuple-returns-2 : (t : ℕ) → tuple-lts.Need-returns-2 (
   is-at-reads.Asked,
   is-at-reads.Learnt,
@@ -532,7 +497,6 @@ tuple-returns-2 : (t : ℕ) → tuple-lts.Need-returns-2 (
 ) (tuple-at t) tuple.Post tuple-Inv-loop tuple-μ-loop
 tuple-returns-2 t c = bad-field (c .before .before .before .before .before .before .before .args .depth) (c .before .before .before .before .before .before .before .args .text .now) (c .before .before .before .before .before .before .before .args .at) (c .before .before .before .before .before .before .before .args .words .now) _ _ _ (c .before .before .before .loop .inv) _ _ (c .before .value .ensures) _ _ (c .if2 .taken) refl refl
 
--- src/values.rt:202:9
 tuple-add-fields : (t : ℕ) → tuple-lts.Need-add-fields (
   is-at-reads.Asked,
   is-at-reads.Learnt,
@@ -543,7 +507,6 @@ tuple-add-fields : (t : ℕ) → tuple-lts.Need-add-fields (
 ) (tuple-at t) tuple.Post tuple-Inv-loop tuple-μ-loop
 tuple-add-fields t c = let i = c .before .before .before .loop .inv in omega (arith, i .within, i .wordsFit, c .before .before .before .before .before .before .before .pre .1 .words)
 
--- src/values.rt:203:13
 tuple-is-at-requires-2 : (t : ℕ) → tuple-lts.Need-is-at-requires-2 (
   is-at-reads.Asked,
   is-at-reads.Learnt,
@@ -554,7 +517,6 @@ tuple-is-at-requires-2 : (t : ℕ) → tuple-lts.Need-is-at-requires-2 (
 ) (tuple-at t) tuple.Post tuple-Inv-loop tuple-μ-loop
 tuple-is-at-requires-2 t c κs = search needs
 
--- src/values.rt:204:13
 tuple-close-requires : (t : ℕ) → tuple-lts.Need-close-requires (
   is-at-reads.Asked,
   is-at-reads.Learnt,
@@ -565,7 +527,6 @@ tuple-close-requires : (t : ℕ) → tuple-lts.Need-close-requires (
 ) (tuple-at t) tuple.Post tuple-Inv-loop tuple-μ-loop
 tuple-close-requires t c κs = closer-room (c .before .before .before .before .before .before .before .before .before .before .args .depth) (c .before .before .before .before .before .before .before .before .before .before .args .text .now) (c .before .before .before .before .before .before .before .before .before .before .args .at) (c .before .before .before .before .before .before .before .before .before .before .args .words .now) _ _ _ (c .before .before .before .before .before .before .loop .inv) _ _ (c .before .before .before .before .value .ensures) (c .before .before .before .if2 .left) (c .before .before .before .before .before .before .before .before .before .before .pre .1)
 
--- src/values.rt:204:13
 tuple-returns-3 : (t : ℕ) → tuple-lts.Need-returns-3 (
   is-at-reads.Asked,
   is-at-reads.Learnt,
@@ -577,7 +538,6 @@ tuple-returns-3 : (t : ℕ) → tuple-lts.Need-returns-3 (
 tuple-returns-3 t c = closed (c .before .before .before .before .before .before .before .before .before .before .before .args .depth) (c .before .before .before .before .before .before .before .before .before .before .before .args .text .now) (c .before .before .before .before .before .before .before .before .before .before .before .args .at) (c .before .before .before .before .before .before .before .before .before .before .before .args .words .now) _ _ _ (c .before .before .before .before .before .before .before .loop .inv) _ _ (c .before .before .before .before .before .value .ensures) (c .before .before .before .before .if2 .left)
     (not-there (c .before .before .before .before .before .before .before .before .before .before .before .args .text .now) (c .before .before .before .before .before .value .result) 44 _ (c .before .before .before .is-at2 .ensures) (not-true _ (c .before .before .if3 .taken))) _ _ (c .close .ensures)
 
--- src/values.rt:206:17
 tuple-add-place : (t : ℕ) → tuple-lts.Need-add-place (
   is-at-reads.Asked,
   is-at-reads.Learnt,
@@ -588,7 +548,6 @@ tuple-add-place : (t : ℕ) → tuple-lts.Need-add-place (
 ) (tuple-at t) tuple.Post tuple-Inv-loop tuple-μ-loop
 tuple-add-place t c = omega (arith, there (c .before .before .before .before .before .before .before .before .before .args .text .now) (c .before .before .before .value .result) 44 _ (c .before .is-at2 .ensures) (not-false _ (c .if3 .left)) .0)
 
--- src/values.rt:197:5
 tuple-loop-less : (t : ℕ) → tuple-lts.Need-loop-less (
   is-at-reads.Asked,
   is-at-reads.Learnt,
@@ -599,7 +558,6 @@ tuple-loop-less : (t : ℕ) → tuple-lts.Need-loop-less (
 ) (tuple-at t) tuple.Post tuple-Inv-loop tuple-μ-loop
 tuple-loop-less t c = omega (arith, there (c .before .before .before .before .before .before .before .before .before .args .text .now) (c .before .before .before .value .result) 44 _ (c .before .is-at2 .ensures) (not-false _ (c .if3 .left)) .0, c .before .before .before .value .ensures .comes (c .before .before .if2 .left) .beyond)
 
--- src/values.rt:197:5
 tuple-loop-again : (t : ℕ) → tuple-lts.Need-loop-again (
   is-at-reads.Asked,
   is-at-reads.Learnt,
@@ -611,7 +569,6 @@ tuple-loop-again : (t : ℕ) → tuple-lts.Need-loop-again (
 tuple-loop-again t c = let h = there (c .before .before .before .before .before .before .before .before .before .args .text .now) (c .before .before .before .value .result) 44 _ (c .before .is-at2 .ensures) (not-false _ (c .if3 .left)) in
     more-fields (c .before .before .before .before .before .before .before .before .before .args .depth) (c .before .before .before .before .before .before .before .before .before .args .text .now) (c .before .before .before .before .before .before .before .before .before .args .at) (c .before .before .before .before .before .before .before .before .before .args .words .now) _ _ _ (c .before .before .before .before .before .loop .inv) _ _ (c .before .before .before .value .ensures) (c .before .before .if2 .left) _ (h .0) (h .1) (omega arith)
 
--- src/values.rt:68:9
 value-refuse-requires : (t : ℕ) → value-lts.Need-refuse-requires (
   refuse-reads.Asked,
   refuse-reads.Learnt,
@@ -626,7 +583,6 @@ value-refuse-requires : (t : ℕ) → value-lts.Need-refuse-requires (
 ) (value-at t) value.Post
 value-refuse-requires t c κs = search needs
 
--- src/values.rt:68:9
 value-returns : (t : ℕ) → value-lts.Need-returns (
   refuse-reads.Asked,
   refuse-reads.Learnt,
@@ -641,7 +597,6 @@ value-returns : (t : ℕ) → value-lts.Need-returns (
 ) (value-at t) value.Post
 value-returns t c = nothing (c .before .before .before .before .args .depth) (c .before .before .before .before .args .text .now) (c .before .before .before .before .args .at) (c .before .before .before .before .args .words .now) _ _ (c .before .before .if1 .taken) (c .refuse .ensures .0) (c .refuse .ensures .1)
 
--- src/values.rt:70:16
 value-shared-slice-read-byte : (t : ℕ) → value-lts.Need-shared-slice-read-byte (
   refuse-reads.Asked,
   refuse-reads.Learnt,
@@ -656,7 +611,6 @@ value-shared-slice-read-byte : (t : ℕ) → value-lts.Need-shared-slice-read-by
 ) (value-at t) value.Post
 value-shared-slice-read-byte t c = search needs
 
--- src/values.rt:71:9
 value-is-opener-requires : (t : ℕ) → value-lts.Need-is-opener-requires (
   refuse-reads.Asked,
   refuse-reads.Learnt,
@@ -671,7 +625,6 @@ value-is-opener-requires : (t : ℕ) → value-lts.Need-is-opener-requires (
 ) (value-at t) value.Post
 value-is-opener-requires t c κs = search needs
 
--- src/values.rt:73:13
 value-integer-requires : (t : ℕ) → value-lts.Need-integer-requires (
   refuse-reads.Asked,
   refuse-reads.Learnt,
@@ -686,7 +639,6 @@ value-integer-requires : (t : ℕ) → value-lts.Need-integer-requires (
 ) (value-at t) value.Post
 value-integer-requires t c κs = (omega (arith, c .before .before .before .before .before .before .pre .1 .within), sym (c .before .before .is-opener .ensures) ∙ not-true _ (c .before .if2 .taken))
 
--- src/values.rt:75:13
 value-refuse-requires-2 : (t : ℕ) → value-lts.Need-refuse-requires-2 (
   refuse-reads.Asked,
   refuse-reads.Learnt,
@@ -701,7 +653,6 @@ value-refuse-requires-2 : (t : ℕ) → value-lts.Need-refuse-requires-2 (
 ) (value-at t) value.Post
 value-refuse-requires-2 t c κs = search needs
 
--- src/values.rt:75:13
 value-returns-2 : (t : ℕ) → value-lts.Need-returns-2 (
   refuse-reads.Asked,
   refuse-reads.Learnt,
@@ -716,7 +667,6 @@ value-returns-2 : (t : ℕ) → value-lts.Need-returns-2 (
 ) (value-at t) value.Post
 value-returns-2 t c = no-integer (c .before .before .before .before .before .before .before .before .before .before .args .depth) (c .before .before .before .before .before .before .before .before .before .before .args .text .now) (c .before .before .before .before .before .before .before .before .before .before .args .at) (c .before .before .before .before .before .before .before .before .before .before .args .words .now) _ _ _ _ (c .before .before .before .integer .ensures) (c .before .before .if3 .taken) (c .refuse2 .ensures .0) (c .refuse2 .ensures .1)
 
--- src/values.rt:77:9
 value-returns-3 : (t : ℕ) → value-lts.Need-returns-3 (
   refuse-reads.Asked,
   refuse-reads.Learnt,
@@ -731,7 +681,6 @@ value-returns-3 : (t : ℕ) → value-lts.Need-returns-3 (
 ) (value-at t) value.Post
 value-returns-3 t c = an-integer (c .before .before .before .before .before .before .before .before .args .depth) (c .before .before .before .before .before .before .before .before .args .text .now) (c .before .before .before .before .before .before .before .before .args .at) (c .before .before .before .before .before .before .before .before .args .words .now) _ _ _ (sym (c .before .before .before .before .is-opener .ensures) ∙ not-true _ (c .before .before .before .if2 .taken)) (c .before .integer .ensures) (c .if3 .left) refl
 
--- src/values.rt:80:9
 value-singles-requires : (t : ℕ) → value-lts.Need-singles-requires (
   refuse-reads.Asked,
   refuse-reads.Learnt,
@@ -746,7 +695,6 @@ value-singles-requires : (t : ℕ) → value-lts.Need-singles-requires (
 ) (value-at t) value.Post
 value-singles-requires t c κs = (omega (arith, c .before .before .before .before .before .before .before .pre .0), c .before .before .before .before .before .before .before .pre .1)
 
--- src/values.rt:80:9
 value-returns-4 : (t : ℕ) → value-lts.Need-returns-4 (
   refuse-reads.Asked,
   refuse-reads.Learnt,
@@ -761,7 +709,6 @@ value-returns-4 : (t : ℕ) → value-lts.Need-returns-4 (
 ) (value-at t) value.Post
 value-returns-4 t c = c .singles .ensures
 
--- src/values.rt:83:9
 value-refuse-requires-3 : (t : ℕ) → value-lts.Need-refuse-requires-3 (
   refuse-reads.Asked,
   refuse-reads.Learnt,
@@ -776,7 +723,6 @@ value-refuse-requires-3 : (t : ℕ) → value-lts.Need-refuse-requires-3 (
 ) (value-at t) value.Post
 value-refuse-requires-3 t c κs = search needs
 
--- src/values.rt:83:9
 value-returns-5 : (t : ℕ) → value-lts.Need-returns-5 (
   refuse-reads.Asked,
   refuse-reads.Learnt,
@@ -792,7 +738,6 @@ value-returns-5 : (t : ℕ) → value-lts.Need-returns-5 (
 value-returns-5 t c = too-deep (c .before .before .before .before .before .before .before .before .before .args .depth) (c .before .before .before .before .before .before .before .before .before .args .text .now) (c .before .before .before .before .before .before .before .before .before .args .at) (c .before .before .before .before .before .before .before .before .before .args .words .now) _ _ (omega (arith, c .before .before .before .before .before .before .before .before .before .pre .1 .within)) (sym (c .before .before .before .before .before .is-opener .ensures) ∙ not-false _ (c .before .before .before .before .if2 .left)) (c .before .before .if5 .taken)
     (c .refuse3 .ensures .0) (c .refuse3 .ensures .1)
 
--- src/values.rt:85:17
 value-add-tuple : (t : ℕ) → value-lts.Need-add-tuple (
   refuse-reads.Asked,
   refuse-reads.Learnt,
@@ -807,7 +752,6 @@ value-add-tuple : (t : ℕ) → value-lts.Need-add-tuple (
 ) (value-at t) value.Post
 value-add-tuple t c = omega (arith, c .before .before .before .before .before .before .before .pre .1 .within)
 
--- src/values.rt:85:25
 value-sub-tuple : (t : ℕ) → value-lts.Need-sub-tuple (
   refuse-reads.Asked,
   refuse-reads.Learnt,
@@ -822,7 +766,6 @@ value-sub-tuple : (t : ℕ) → value-lts.Need-sub-tuple (
 ) (value-at t) value.Post
 value-sub-tuple t c = pos-of-ne-zero (c .if5 .left)
 
--- src/values.rt:85:5
 value-tuple-requires : (t : ℕ) → value-lts.Need-tuple-requires (
   refuse-reads.Asked,
   refuse-reads.Learnt,
@@ -841,7 +784,6 @@ value-tuple-requires t c κs = let p = c .before .before .before .before .before
       record { within = omega (arith, p .within); words = omega (arith, p .words) },
     )
 
--- src/values.rt:62:1
 value-returns-6 : (t : ℕ) → value-lts.Need-returns-6 (
   refuse-reads.Asked,
   refuse-reads.Learnt,

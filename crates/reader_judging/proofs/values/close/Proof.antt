@@ -11,42 +11,33 @@ use Rattle.reader_judging.proofs.values.close.Lts as lts
 use Rattle.reader_judging.proofs.values.is_at.Reads as is-at-reads
 use Rattle.reader_judging.proofs.values.refuse.Reads as refuse-reads
 
--- src/values.rt:143:9
 refuse-requires : tie.Need-refuse-requires
 refuse-requires c κs = search needs
 
--- src/values.rt:143:9
 returns : tie.Need-returns
 returns c = search needs
 
--- src/values.rt:145:9
 is-at-requires : tie.Need-is-at-requires
 is-at-requires c κs = search needs
 
--- src/values.rt:146:9
 refuse-requires-2 : tie.Need-refuse-requires-2
 refuse-requires-2 c κs = search needs
 
--- src/values.rt:146:9
 returns-2 : tie.Need-returns-2
 returns-2 c = let i = c .before .before .before .is-at in record {
   stops = λ _. (λ two l e. not-there (c .before .before .before .before .before .before .args .text .now) (c .before .before .before .before .before .before .args .at) 41 _ (i .ensures) (not-true _ (c .before .before .if2 .taken)) l e, c .refuse2 .ensures .1);
   comes = λ z. absurd (z (c .refuse2 .ensures .0));
 }
 
--- src/values.rt:148:15
 add-words : tie.Need-add-words
 add-words c = omega (arith, there (c .before .before .before .before .args .text .now) (c .before .before .before .before .args .at) 41 _ (c .before .is-at .ensures) (not-false _ (c .if2 .left)) .0, c .before .before .before .before .pre)
 
--- src/values.rt:148:5
 add-words-2 : tie.Need-add-words-2
 add-words-2 c = omega (arith, there (c .before .before .before .before .before .args .text .now) (c .before .before .before .before .before .args .at) 41 _ (c .before .before .is-at .ensures) (not-false _ (c .before .if2 .left)) .0, c .before .before .before .before .before .pre)
 
--- src/values.rt:150:5
 add-result : tie.Need-add-result
 add-result c = omega (arith, there (c .before .before .before .before .before .args .text .now) (c .before .before .before .before .before .args .at) 41 _ (c .before .before .is-at .ensures) (not-false _ (c .before .if2 .left)) .0)
 
--- src/values.rt:137:1
 returns-3 : tie.Need-returns-3
 returns-3 c = let h = there (c .before .before .before .before .before .args .text .now) (c .before .before .before .before .before .args .at) 41 _ (c .before .before .is-at .ensures) (not-false _ (c .before .if2 .left)) in record {
   stops = λ e. absurd (omega arith);

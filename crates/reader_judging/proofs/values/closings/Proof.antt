@@ -17,37 +17,29 @@ Inv-loop text at levels place₀ left₀ place left = Closing text at levels pla
 abbrev μ-loop : tie.MeasureT-loop
 μ-loop text at levels place₀ left₀ place left = left
 
--- src/values.rt:126:5
 loop-holds : tie.Need-loop-holds Inv-loop μ-loop
 loop-holds c = none-closed _ _ _ (c .before .pre .1) (c .before .pre .0)
 
--- src/values.rt:127:13
 is-at-requires : tie.Need-is-at-requires Inv-loop μ-loop
 is-at-requires c κs = search needs
 
--- src/values.rt:128:13
 returns : tie.Need-returns Inv-loop μ-loop
 returns c = no-closer _ _ _ (c .before .before .before .before .before .pre .1) _ _ (c .before .before .before .loop .inv) (c .before .before .loop-test .taken)
     (not-there (c .before .before .before .before .before .args .text .now) (c .before .before .before .loop .place) 125 _ (c .before .is-at .ensures) (not-true _ (c .if1 .taken)))
 
--- src/values.rt:130:9
 sub-left : tie.Need-sub-left Inv-loop μ-loop
 sub-left c = search needs
 
--- src/values.rt:131:9
 add-place : tie.Need-add-place Inv-loop μ-loop
 add-place c = search needs
 
--- src/values.rt:126:5
 loop-less : tie.Need-loop-less Inv-loop μ-loop
 loop-less c = search needs
 
--- src/values.rt:126:5
 loop-again : tie.Need-loop-again Inv-loop μ-loop
 loop-again c = let h = there (c .before .before .before .before .before .args .text .now) (c .before .before .before .loop .place) 125 _ (c .before .is-at .ensures) (not-false _ (c .if1 .left)) in
     one-closed _ _ _ (c .before .before .before .before .before .pre .1) _ _ (c .before .before .before .loop .inv) (c .before .before .loop-test .taken) (h .0) (h .1)
 
--- src/values.rt:120:1
 returns-2 : tie.Need-returns-2 Inv-loop μ-loop
 returns-2 c = all-closed _ _ _ (c .before .before .before .pre .1) _ _ (c .before .loop .inv) (omega arith)
 

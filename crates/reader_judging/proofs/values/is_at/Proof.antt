@@ -1,5 +1,5 @@
-use lib.ListN.{length}
 -- `reader_judging::values::is_at` meets its contract.
+use lib.ListN.{length}
 use borrow.Author.Tests.{lt-ltb, le-ltb}
 use native.Mathlib.Omega.{arith}
 use borrow.Author.Needs.{needs}
@@ -8,15 +8,12 @@ use Rattle.reader_judging.proofs.values.is_at.Tie as tie
 use Rattle.reader_judging.proofs.values.is_at.Reads as reads
 use Rattle.reader_judging.proofs.values.is_at.Lts as lts
 
--- src/values.rt:47:9
 returns : tie.Need-returns
 returns c = simp (le-ltb _ _ (c .if1 .taken))
 
--- src/values.rt:49:5
 shared-slice-read-result : tie.Need-shared-slice-read-result
 shared-slice-read-result c = search needs
 
--- src/values.rt:43:1
 returns-2 : tie.Need-returns-2
 returns-2 c = simp (lt-ltb (c .before .before .args .at) (length (c .before .before .args .text .now)) (omega arith))
 

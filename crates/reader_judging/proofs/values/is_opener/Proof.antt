@@ -5,11 +5,9 @@ use Rattle.reader_judging.proofs.values.is_opener.Tie as tie
 use Rattle.reader_judging.proofs.values.is_opener.Reads as reads
 use Rattle.reader_judging.proofs.values.is_opener.Lts as lts
 
--- src/values.rt:37:1
 returns : tie.Need-returns
 returns c = simp (eq-eqb _ _ (c .if1 .taken))
 
--- src/values.rt:37:1
 returns-2 : tie.Need-returns-2
 returns-2 c = simp (ne-eqb _ _ (c .if1 .left))
 

@@ -19,36 +19,28 @@ Inv-loop text at depth place₀ levels₀ place levels = Opening text at depth p
 abbrev μ-loop : tie.MeasureT-loop
 μ-loop text at depth place₀ levels₀ place levels = depth - levels
 
--- src/values.rt:109:5
 loop-holds : tie.Need-loop-holds Inv-loop μ-loop
 loop-holds c = none-opened _ _ _ (c .before .pre)
 
--- src/values.rt:110:13
 opens-one-requires : tie.Need-opens-one-requires Inv-loop μ-loop
 opens-one-requires c κs = search needs
 
--- src/values.rt:111:13
 returns : tie.Need-returns Inv-loop μ-loop
 returns c = no-more-opened _ _ _ _ _ (c .before .before .before .loop .inv) _ (c .before .opens-one .ensures) (not-true _ (c .if1 .taken))
 
--- src/values.rt:113:9
 add-levels : tie.Need-add-levels Inv-loop μ-loop
 add-levels c = search needs
 
--- src/values.rt:114:9
 add-place : tie.Need-add-place Inv-loop μ-loop
 add-place c = search needs
 
--- src/values.rt:109:5
 loop-less : tie.Need-loop-less Inv-loop μ-loop
 loop-less c = search needs
 
--- src/values.rt:109:5
 loop-again : tie.Need-loop-again Inv-loop μ-loop
 loop-again c = one-opened _ _ _ _ _ (c .before .before .before .loop .inv) _ (c .before .opens-one .ensures) (not-false _ (c .if1 .left))
     (c .before .before .loop-test .taken)
 
--- src/values.rt:103:1
 returns-2 : tie.Need-returns-2 Inv-loop μ-loop
 returns-2 c = all-opened _ _ _ _ _ (c .before .loop .inv) (omega arith)
 

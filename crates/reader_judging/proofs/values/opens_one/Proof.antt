@@ -11,36 +11,28 @@ use Rattle.reader_judging.proofs.values.opens_one.Reads as reads
 use Rattle.reader_judging.proofs.values.opens_one.Lts as lts
 use Rattle.reader_judging.proofs.values.is_at.Reads as is-at-reads
 
--- src/values.rt:93:9
 is-at-requires : tie.Need-is-at-requires
 is-at-requires c κs = search needs
 
--- src/values.rt:94:9
 returns : tie.Need-returns
 returns c = no-brace _ _ (not-there (c .before .before .before .args .text .now) (c .before .before .before .args .at) 123 _ (c .before .is-at .ensures) (not-true _ (c .if1 .taken)))
 
--- src/values.rt:96:21
 add-is-at : tie.Need-add-is-at
 add-is-at c = search needs
 
--- src/values.rt:96:9
 is-at-requires-2 : tie.Need-is-at-requires-2
 is-at-requires-2 c κs = search needs
 
--- src/values.rt:97:9
 returns-2 : tie.Need-returns-2
 returns-2 c = let h = there (c .before .before .before .before .before .args .text .now) (c .before .before .before .before .before .args .at) 123 _ (c .before .before .before .is-at .ensures) (not-false _ (c .before .before .if1 .left)) in
     no-one _ _ (h .0) (h .1) (not-there (c .before .before .before .before .before .args .text .now) (c .before .before .before .before .before .args .at + 1) 49 _ (c .before .is-at2 .ensures) (not-true _ (c .if2 .taken)))
 
--- src/values.rt:99:17
 add-is-at-2 : tie.Need-add-is-at-2
 add-is-at-2 c = search needs
 
--- src/values.rt:99:5
 is-at-requires-3 : tie.Need-is-at-requires-3
 is-at-requires-3 c κs = search needs
 
--- src/values.rt:89:1
 returns-3 : tie.Need-returns-3
 returns-3 c = let h = there (c .before .before .before .before .before .before .args .text .now) (c .before .before .before .before .before .before .args .at) 123 _ (c .before .before .before .before .is-at .ensures) (not-false _ (c .before .before .before .if1 .left)) in
     let g = there (c .before .before .before .before .before .before .args .text .now) (c .before .before .before .before .before .before .args .at + 1) 49 _ (c .before .before .is-at2 .ensures) (not-false _ (c .before .if2 .left)) in

@@ -11,23 +11,18 @@ use Rattle.reader_judging.proofs.values.outermost.Lts as lts
 use Rattle.reader_judging.proofs.values.singles.Reads as singles-reads
 use Rattle.reader_judging.proofs.values.tuple.Reads as tuple-reads
 
--- src/values.rt:233:9
 singles-requires : tie.Need-singles-requires
 singles-requires c κs = search needs
 
--- src/values.rt:233:9
 returns : tie.Need-returns
 returns c = from-none _ _ _ _ (c .before .before .before .before .pre .words) (c .singles .ensures)
 
--- src/values.rt:235:20
 sub-tuple : tie.Need-sub-tuple
 sub-tuple c = search needs
 
--- src/values.rt:235:5
 tuple-requires : tie.Need-tuple-requires
 tuple-requires c κs = search needs
 
--- src/values.rt:228:1
 returns-2 : tie.Need-returns-2
 returns-2 c = let p = c .before .before .before .before .pre in
     from-none _ _ _ _ (p .words)
