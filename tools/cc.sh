@@ -3,7 +3,6 @@
 #   tools/cc.sh build OUT WORDS..   compiles the .c files among WORDS and links them, with the .a files, to the program OUT
 #   tools/cc.sh compile WORDS..     compiles only: WORDS are the compiler's, with '-x c++' for C++
 #   tools/cc.sh run OUT WORDS..     runs a program so made
-#   tools/cc.sh pace                'native', or 'emulated' where programs run some ten times slower
 # On x86-64 that is the system's cc. On Arm clang makes x86-64 objects, the kit's linker joins them with the kit's C
 # library, and the kit's emulator runs them.
 #
@@ -153,18 +152,16 @@ run_emulated() {
 
 machine=$(uname -m)
 [ "$(uname -s)" = Linux ] || die "only Linux is known here"
-[ $# -ge 1 ] || die "usage: tools/cc.sh build|compile|run|pace|kit-..|own-build .."
+[ $# -ge 1 ] || die "usage: tools/cc.sh build|compile|run|kit-..|own-build .."
 what=$1
 shift
 case $machine-$what in
 x86_64-build) out=$1 && shift && compile_native "$@" -o "$out" ;;
 x86_64-compile) compile_native "$@" ;;
 x86_64-run) exec "$@" ;;
-x86_64-pace) echo native ;;
 aarch64-build) build_for_x86 compile_for_x86 "$@" ;;
 aarch64-compile) compile_for_x86 "$@" ;;
 aarch64-run) run_emulated "$@" ;;
-aarch64-pace) echo emulated ;;
 *-has) has "$@" ;;
 *-kit-clang) kit_clang "$@" ;;
 *-kit-ar) find_kit && "$tools/bin/llvm-ar" "$@" ;;

@@ -91,6 +91,4 @@ installed
 build lisp examples/lisp/*.c "$archive"
 sh tests/c/lisp.sh $made/lisp || fail "the interpreter"
 build check tests/c/*.c "$archive"
-calls=1000000
-[ "$(tools/cc.sh pace)" = native ] || calls=100000
-tools/cc.sh run $made/check $calls ${2:-}
+tools/cc.sh run $made/check 1000000 ${2:-}
