@@ -4,11 +4,9 @@ use native.Mathlib.Omega.{arith}
 use mathlib.Core.Path.{_≡_, refl, sym, ap, _∙_}
 use mathlib.Core.Logic.{⊎-elim, _↔_}
 use mathlib.Core.Bool.{true, false}
-use mathlib.Core.List.{List}
 use lib.Dec.{ltb}
 use lib.ListN.{length, take, drop, length-take, length-drop, length-replicate}
-use lib.Seq.{getD-take, getD-drop}
-use borrow.Author.Tests.{eqb-true, eq-eqb, ltb-true, ltb-false, le-leb, lt-leb}
+use borrow.Author.Tests.{eqb-true, eq-eqb, ltb-true, ltb-false, le-leb}
 use Rattle.model.specs.declared.Kind.{Kind}
 use Rattle.model.specs.declared.Kind.the-variants.{Traced, Untraced}
 use Rattle.model.specs.declared.Refusal.{Refusal}
@@ -28,7 +26,7 @@ use Rattle.model.specs.Objects.{address, index, fieldCount, names}
 use Rattle.model.specs.Sessions.{machine}
 use Rattle.model.specs.Shape.{badLength, badShape}
 use Rattle.model.specs.Values.{isCode, inRange, untag}
-use Rattle.model.specs.Window.{window, windowWord}
+use Rattle.model.specs.Window.{window}
 use Rattle.model.specs.Words.{State, at}
 use Rattle.demands.proofs.CallsPass.{fails-test}
 use Rattle.theory.proofs.Deciding.{shape-decides, names-decides}

@@ -7,7 +7,7 @@ use mathlib.Core.Logic.{inl, inr, ⊎-elim}
 use mathlib.Core.List.{List}
 use lib.ListN.{length}
 use lib.Seq.{ext-getD}
-use Rattle.model.specs.Words.{State, at, halfWords, other, firstWord, otherFirst, free}
+use Rattle.model.specs.Words.{State, at, halfWords, firstWord, otherFirst, free}
 use Rattle.model.specs.Headers.{Layout, Marks}
 use Rattle.model.specs.Discovery.{mem, packed}
 use Rattle.model.specs.Collection.{cells, orderAt, live, collected}

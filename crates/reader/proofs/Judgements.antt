@@ -11,7 +11,7 @@ use borrow.Author.Tests.{leb-true}
 use Rattle.model.specs.declared.Refusal.{Refusal}
 use Rattle.model.specs.Limits.{maxInteger}
 use Rattle.model.specs.Values.{inRange}
-use Rattle.model.specs.Trees.{Forest, Tree, leaf, node, treeWords}
+use Rattle.model.specs.Trees.{Forest, leaf, node, treeWords}
 use Rattle.model.specs.Reading.{Parsed, tree, broken, parsed}
 use Rattle.theory.proofs.ReadJudged.{parsed-text}
 use Rattle.reader_judging.specs.declared.Judged.{Judged}

@@ -1,8 +1,8 @@
 -- Read by what its tests come to.
-use Prim.Native.Nat.{ℕ, _+_, _-_, _≤_, _<_}
+use Prim.Native.Nat.{ℕ, _≤_, _<_}
 use native.Mathlib.Omega.{arith}
-use mathlib.Core.Path.{_≡_, refl, sym, ap, _∙_}
-use mathlib.Core.Bool.{true, false, not}
+use mathlib.Core.Path.{_≡_, refl, ap, _∙_}
+use mathlib.Core.Bool.{true, false}
 use mathlib.Core.List.{List}
 use lib.IntN.{ℤ}
 use lib.ListN.{length}
@@ -26,7 +26,7 @@ use Rattle.model.specs.Sessions.{step}
 use Rattle.theory.proofs.ReadJudged.{parsed-text}
 use Rattle.theory.proofs.Unseen.{lending, lent-too}
 use Rattle.placing.specs.Placing.{spareOf}
-use Rattle.reader.specs.Planting.{Stands, retried}
+use Rattle.reader.specs.Planting.{retried}
 
 module _ (Y : Layout) (r : ℕ) (s : State) where
   pub read-shape : badShape s ≡ true → says (Says.Refused Why.Shape) s ≡ Calls.read Y r s

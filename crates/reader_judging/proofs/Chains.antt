@@ -3,19 +3,18 @@ use Prim.Native.Nat.{ℕ, zero, suc, _+_, _-_, _*_, _≤_, _<_}
 use native.Mathlib.Omega.{arith}
 use native.Mathlib.Numerals.{add-one}
 use mathlib.Core.Path.{_≡_, refl, sym, ap, _∙_}
-use mathlib.Core.Bool.{Bool, true, false, cond}
+use mathlib.Core.Bool.{Bool, true, false}
 use mathlib.Core.List.{List}
-use lib.Dec.{leb, eqb}
 use lib.ListN.{length, getD}
 use borrow.Author.Tests.{lt-leb, ne-eqb}
 use Rattle.model.specs.declared.Refusal.the-variants as Why
 use Rattle.model.specs.Texts.{maxDepth}
 use Rattle.model.specs.Trees.{Tree, node, then, end, treeWords}
 use Rattle.model.specs.ReadFaults as Faults
-use Rattle.model.specs.Reading.{Open, brace, height, start, braced, numbered, whole, Next, go, bad, begin, broken}
+use Rattle.model.specs.Reading.{Open, brace, height, start, braced, numbered, whole, go, begin}
 use Rattle.theory.proofs.Tests.{never}
 use Rattle.reader_numerals.specs.Numerals.{rest}
-use Rattle.reader_judging.specs.Places.{braces, wrapped, Stuck, OpensOne, Opened, Closed, whyOf, Room, Whole, Reads}
+use Rattle.reader_judging.specs.Places.{braces, wrapped, Stuck, OpensOne, Opened, Closed, Room, Reads}
 use Rattle.reader_numerals.proofs.Steps.{step-to}
 use Rattle.reader_judging.proofs.Forests.{one-words}
 use Rattle.reader_judging.proofs.Sorts.{missing, refused}

@@ -2,9 +2,9 @@
 use Prim.Native.Nat.{ℕ, _+_, _≤_}
 use native.Mathlib.Omega.{arith}
 use mathlib.Core.Path.{_≡_, refl}
-use mathlib.Core.Bool.{Bool, true, false}
+use mathlib.Core.Bool.{false}
 use mathlib.Core.List.{List, [], _∷_, _++_}
-use Rattle.model.specs.Trees.{Forest, end, leafThen, nodeThen, Tree, leaf, node, then, count, forestWords, treeWords}
+use Rattle.model.specs.Trees.{Forest, end, Tree, leaf, node, then, count, forestWords, treeWords}
 use Rattle.model.specs.Reading.{forestOf, noneYet}
 
 count-then : (x : Tree) (f : Forest) → count (then x f) ≡ count f + 1

@@ -4,21 +4,20 @@ use native.Mathlib.Omega.{arith}
 use native.Mathlib.Nat.{pos-of-ne-zero}
 use mathlib.Core.Path.{_≡_, refl, sym, ap, _∙_}
 use mathlib.Core.Logic.{⊎-elim}
-use mathlib.Core.Bool.{Bool, true, false, cond, _||_}
+use mathlib.Core.Bool.{true, false}
 use mathlib.Core.List.{List}
-use lib.Dec.{leb, eqb}
+use lib.Dec.{eqb}
 use lib.ListN.{length, getD}
-use borrow.Author.Tests.{le-leb, lt-leb, ne-eqb, eqb-true}
-use Rattle.model.specs.declared.Refusal.{Refusal}
+use borrow.Author.Tests.{le-leb, lt-leb, eqb-true}
 use Rattle.model.specs.declared.Refusal.the-variants as Why
 use Rattle.model.specs.Texts.{maxDepth}
-use Rattle.model.specs.Trees.{Tree, leaf, treeWords}
+use Rattle.model.specs.Trees.{leaf}
 use Rattle.model.specs.ReadFaults as Faults
 use Rattle.model.specs.Reading.{Open, height, Mode, start, opened, Next, go, bad, signed}
-use Rattle.model.specs.Reading.{begin, onward, stopped, Parsed, broken}
+use Rattle.model.specs.Reading.{begin, onward, stopped, broken}
 use Rattle.theory.proofs.Tests.{decide, or-cases}
 use Rattle.reader_numerals.specs.Numerals.{rest, negative, Numeral}
-use Rattle.reader_judging.specs.Places.{whyOf, Stuck, Whole, Reads}
+use Rattle.reader_judging.specs.Places.{whyOf, Stuck, Reads}
 use Rattle.reader_numerals.proofs.Steps.{step-to, step-bad, at-end}
 
 -- what no byte that stands at a place may follow

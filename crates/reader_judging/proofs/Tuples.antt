@@ -1,20 +1,19 @@
 -- How a tuple of no field, or of two or more, is read from behind "(".
-use Prim.Native.Nat.{ℕ, _+_, _-_, _≤_, _<_}
+use Prim.Native.Nat.{ℕ, _+_, _≤_, _<_}
 use native.Mathlib.Omega.{arith}
 use mathlib.Core.Path.{_≡_, refl, sym, ap, _∙_}
 use mathlib.Core.Logic.{⊎-elim}
-use mathlib.Core.Bool.{Bool, true, false, not, cond, _&&_}
+use mathlib.Core.Bool.{true, false}
 use mathlib.Core.List.{List, [], _∷_, _++_}
-use lib.Dec.{eqb}
 use lib.ListN.{length, getD}
-use borrow.Author.Tests.{eq-eqb, ne-eqb}
+use borrow.Author.Tests.{ne-eqb}
 use Rattle.model.specs.declared.Refusal.the-variants as Why
 use Rattle.model.specs.Texts.{maxDepth}
-use Rattle.model.specs.Trees.{Tree, node, end, count, forestWords, treeWords}
-use Rattle.model.specs.Reading.{Open, paren, height, forestOf, noneYet, start, opened, whole, Next, go, bad, follow, broken}
+use Rattle.model.specs.Trees.{Tree, node, end, count, forestWords}
+use Rattle.model.specs.Reading.{Open, paren, height, forestOf, noneYet, start, opened, whole, go, bad, follow, broken}
 use Rattle.theory.proofs.Tests.{by-test, decide, same?}
 use Rattle.reader_numerals.specs.Numerals.{rest}
-use Rattle.reader_judging.specs.Places.{whyOf, Room, Closes, Whole, Reads}
+use Rattle.reader_judging.specs.Places.{whyOf, Room, Closes, Reads}
 use Rattle.reader_numerals.proofs.Steps.{step-to, at-end}
 use Rattle.reader_judging.proofs.Forests.{count-more, words-more, none-counts, some-yet, not-none-yet}
 use Rattle.reader_judging.proofs.Sorts.{missing, refused}

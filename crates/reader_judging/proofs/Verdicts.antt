@@ -3,7 +3,7 @@ use Prim.Native.Nat.{ℕ, zero, suc, _+_, _≤_, _<_}
 use native.Mathlib.Omega.{arith}
 use mathlib.Core.Path.{_≡_, refl, sym, ap, _∙_}
 use mathlib.Core.Logic.{⊎-elim}
-use mathlib.Core.Bool.{Bool, true, false, cond}
+use mathlib.Core.Bool.{Bool, true, false}
 use mathlib.Core.List.{List}
 use lib.IntN.{ℤ}
 use lib.ListN.{length, getD}
@@ -15,9 +15,8 @@ use Rattle.model.specs.declared.Refusal.the-variants as Why
 use Rattle.model.specs.Texts.{maxDepth}
 use Rattle.model.specs.Trees.{Tree, leaf, node, treeWords}
 use Rattle.model.specs.ReadFaults as Faults
-use Rattle.model.specs.Reading.{outside, start, whole, Next, go, signed, mostDigits, Parsed, tree, broken, parsed}
+use Rattle.model.specs.Reading.{outside, start, whole, go, signed, mostDigits, Parsed, tree, broken, parsed}
 use Rattle.theory.proofs.Tests.{same?, never}
-use Rattle.reader_judging.specs.declared.Judged.{Judged}
 use Rattle.reader_judging.specs.declared.Judged.the-variants.{Integer, Tuple, Refused}
 use Rattle.reader_judging.specs.Judging.{judgedOf}
 use Rattle.reader_numerals.specs.Numerals.{rest, negative, Numeral}

@@ -3,17 +3,17 @@ use Prim.Native.Nat.{ℕ, zero, suc, _+_, _-_, _*_, _≤_, _<_}
 use native.Mathlib.Omega.{arith}
 use mathlib.Core.Path.{_≡_, refl, sym, ap, _∙_}
 use mathlib.Core.Logic.{⊎-elim}
-use mathlib.Core.Bool.{Bool, true, false, not, cond, _&&_, _||_}
+use mathlib.Core.Bool.{Bool, true, false, cond, _||_}
 use mathlib.Core.List.{List}
-use lib.Dec.{ltb, leb, eqb}
+use lib.Dec.{ltb, eqb}
 use lib.ListN.{length, getD}
-use borrow.Author.Tests.{ltb-true, ltb-false, lt-ltb, le-leb, lt-leb, le-ltb, ne-eqb, eq-eqb}
+use borrow.Author.Tests.{ltb-true, lt-ltb, le-leb, le-ltb, ne-eqb}
 use Rattle.model.specs.declared.Refusal.the-variants as Why
 use Rattle.model.specs.Texts.{maxDepth}
 use Rattle.model.specs.Trees.{leaf}
-use Rattle.model.specs.Reading.{Open, outside, paren, brace, Mode, digits, whole, Next, go, bad, isDigit, signed, mostDigits, next, onward}
+use Rattle.model.specs.Reading.{Open, digits, whole, Next, go, bad, isDigit, signed, mostDigits, next, onward}
 use Rattle.theory.proofs.Tests.{by-test, decide}
-use Rattle.reader_numerals.specs.Numerals.{rest, ofDigits, firstDigit}
+use Rattle.reader_numerals.specs.Numerals.{rest, ofDigits}
 use Rattle.reader_numerals.proofs.Steps.{step-to, at-end, digit-bounds, follow-digit}
 
 -- 10 to the power k

@@ -3,19 +3,19 @@ use Prim.Native.Nat.{ℕ, _+_, _-_, _≤_, _<_}
 use native.Mathlib.Omega.{arith}
 use mathlib.Core.Path.{_≡_, refl, sym, ap, _∙_}
 use mathlib.Core.Logic.{⊎-elim}
-use mathlib.Core.Bool.{Bool, true, false, not, cond, _&&_, _||_}
+use mathlib.Core.Bool.{Bool, true, false, cond}
 use mathlib.Core.List.{List}
-use lib.Dec.{ltb, leb, eqb}
+use lib.Dec.{eqb}
 use lib.IntN.{ℤ, pos}
 use lib.ListN.{length, getD}
-use borrow.Author.Tests.{lt-ltb, le-ltb, le-leb, lt-leb, eq-eqb, ne-eqb, eqb-true}
+use borrow.Author.Tests.{lt-ltb, le-ltb, le-leb, lt-leb, ne-eqb, eqb-true}
 use Rattle.model.specs.declared.Refusal.the-variants as Why
 use Rattle.model.specs.Texts.{maxDepth, minus}
 use Rattle.model.specs.Trees.{leaf}
 use Rattle.model.specs.ReadFaults as Faults
-use Rattle.model.specs.Reading.{Open, start, negated, digits, whole, Next, go, bad, isDigit, signed, mostDigits, begin, onward, stopped, broken}
+use Rattle.model.specs.Reading.{Open, start, negated, digits, whole, Next, go, bad, isDigit, signed, mostDigits, begin, broken}
 use Rattle.theory.proofs.Tests.{by-test, decide, or-none}
-use Rattle.reader_numerals.specs.Numerals.{rest, isFirst, ofDigits, Counted, firstDigit, Awaits, NaturalRead, Natural, negative, NumeralRead, Numeral}
+use Rattle.reader_numerals.specs.Numerals.{rest, isFirst, ofDigits, Counted, firstDigit, Awaits, Natural, negative, Numeral}
 use Rattle.reader_numerals.proofs.Steps.{step-to, step-bad, at-end, bad-stays}
 use Rattle.reader_numerals.proofs.DigitRuns.{no-more, first-so-far}
 

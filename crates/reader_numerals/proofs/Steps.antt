@@ -3,7 +3,7 @@ use Prim.Native.Nat.{ℕ, _+_, _≤_, _<_}
 use native.Mathlib.Omega.{arith}
 use native.Mathlib.Numerals.{add-one}
 use mathlib.Core.Path.{_≡_, refl, sym, ap, _∙_}
-use mathlib.Core.Bool.{Bool, true, false, cond, _&&_, _||_}
+use mathlib.Core.Bool.{Bool, true, false, _&&_}
 use mathlib.Core.List.{List, [], _∷_}
 use lib.Dec.{ltb, leb, eqb}
 use lib.ListN.{length, getD, drop}
@@ -13,7 +13,7 @@ use Rattle.model.specs.declared.Refusal.{Refusal}
 use Rattle.model.specs.declared.Refusal.the-variants as Why
 use Rattle.model.specs.Texts.{maxDepth}
 use Rattle.model.specs.Trees.{Tree}
-use Rattle.model.specs.Reading.{Open, outside, paren, brace, Next, go, bad, isDigit, follow, onward, stopped, Parsed, broken, parsedFrom}
+use Rattle.model.specs.Reading.{Open, outside, paren, brace, Next, bad, isDigit, follow, onward, stopped, broken, parsedFrom}
 use Rattle.theory.proofs.Tests.{and-both, both-and, never}
 use Rattle.reader_numerals.specs.Numerals.{rest}
 

@@ -1,6 +1,6 @@
 -- Placing as `model` has it: with zeros in each new object, which its fields' words replace, and with no counts in the words that
 -- are still to be filled. What stands in a word that is to be filled does not matter.
-use Prim.Native.Nat.{ℕ, suc, _+_, _-_, _*_, _≤_, _<_}
+use Prim.Native.Nat.{ℕ, suc, _+_, _*_, _≤_, _<_}
 use native.Mathlib.Omega.{arith}
 use mathlib.Core.Path.{_≡_, sym, ap, _∙_}
 use mathlib.Core.Logic.{⊎-elim}

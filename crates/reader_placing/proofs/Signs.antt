@@ -9,7 +9,7 @@ use lib.IntN.{ℤ, pos, negsuc}
 use lib.ListN.{length, getD, drop, set, length-append}
 use borrow.Author.Tests.{lt-ltb, le-ltb, leb-true}
 use Rattle.model.specs.Limits.{maxInteger}
-use Rattle.model.specs.Texts.{digit, digits, digitsTo}
+use Rattle.model.specs.Texts.{digits, digitsTo}
 use Rattle.model.specs.Reading.{isDigit}
 use Rattle.theory.proofs.Tests.{decide, never}
 use Rattle.reader_placing.specs.Numerals.{DigitsAt, DigitsRead, IntegerAt, IntegerRead}

@@ -1,6 +1,6 @@
 -- What the loop over the text from its end knows of the bytes that it has passed: the tuples that stand open, each with its values
 -- so far, the last opened first, and the counts of those that do not.
-use Prim.Native.Nat.{ℕ, zero, suc, _+_, _-_, _≤_, _<_}
+use Prim.Native.Nat.{ℕ, zero, suc, _+_, _≤_, _<_}
 use native.Mathlib.Omega.{arith}
 use mathlib.Core.Path.{_≡_, refl, sym, ap, _∙_}
 use mathlib.Core.Bool.{true, false, cond}

@@ -9,7 +9,7 @@ use lib.IntN.{ℤ, pos, negsuc}
 use lib.ListN.{length, getD, drop}
 use borrow.Author.Tests.{ne-eqb, leb-true, ltb-true}
 use Rattle.model.specs.Texts.{integerText, digits, joined, enclosed}
-use Rattle.model.specs.Trees.{Forest, end, leafThen, nodeThen, node, then, count, texts, treeText}
+use Rattle.model.specs.Trees.{Forest, end, leafThen, nodeThen, node, count, texts, treeText}
 use Rattle.model.specs.Reading.{isDigit}
 use Rattle.model.specs.ReadFaults as Faults
 use Rattle.theory.proofs.Tests.{and-both}

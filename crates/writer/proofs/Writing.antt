@@ -22,7 +22,7 @@ use Rattle.model.specs.Objects.{index, isTraced, kind, fieldWords, names}
 use Rattle.model.specs.Shape.{badShape}
 use Rattle.model.specs.Answers.{Outcome, says}
 use Rattle.model.specs.Texts.{Form, asInteger, asTuple, textless, Piece, maxDepth, valuePieces, Spelled, whole, broken}
-use Rattle.model.specs.Texts.{spelled, over, writes}
+use Rattle.model.specs.Texts.{spelled, writes}
 use Rattle.model.specs.Changes.{rootWord}
 use Rattle.model.specs.Calls.{wordForm, rootSpelled, write}
 use Rattle.theory.proofs.Headers.{tuple-adjacent}

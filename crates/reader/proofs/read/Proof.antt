@@ -1,7 +1,6 @@
 -- `reader::read` meets its contract: one case of the definition for each return, by what the text was judged to be.
 use mathlib.Core.Path.{_≡_, sym, ap, _∙_}
 use mathlib.Core.Bool.{false}
-use native.Mathlib.Omega.{arith}
 use lib.IntN.{ℤ}
 use mir.Syntax.{w32, w64}
 use mir.Val.{toZ, ofZ}

@@ -1,18 +1,17 @@
 -- `reader_numerals::digits` meets its contract. The loop's invariant: what follows the first digit comes to what follows the
 -- digits up to the present place, whose number has as many digits.
-use Prim.Native.Nat.{ℕ, suc, _+_, _-_, _*_, _≤_, _<_}
+use Prim.Native.Nat.{_+_, _-_, _≤_, _<_}
 use native.Mathlib.Omega.{arith}
-use native.Mathlib.Numerals.{add-one}
-use mathlib.Core.Path.{_≡_, refl, sym, ap, _∙_}
-use mathlib.Core.Bool.{Bool, true, false}
-use lib.ListN.{length, getD}
+use mathlib.Core.Path.{_≡_, sym, ap, _∙_}
+use mathlib.Core.Bool.{Bool}
+use lib.ListN.{getD}
 use borrow.Author.Needs.{needs}
 use borrow.Author.Tests.{not-true, not-false}
 use Rattle.model.specs.Reading.{Open, digits, go, Next}
 use Rattle.theory.proofs.Tests.{never}
 use Rattle.reader_numerals.specs.Numerals.{rest}
 use Rattle.reader_numerals.proofs.Steps.{step-to, digit-bounds}
-use Rattle.reader_numerals.proofs.DigitRuns.{Sized, size-first, size-more, size-fits, size-full, most-high, soFar, one-more, no-more, first-so-far, full, size-some}
+use Rattle.reader_numerals.proofs.DigitRuns.{Sized, size-first, size-more, size-fits, size-full, soFar, one-more, no-more, first-so-far, full, size-some}
 use Rattle.reader_numerals.proofs.digits.Statement.{statement}
 use Rattle.reader_numerals.proofs.digits.Tie as tie
 use Rattle.reader_numerals.proofs.digits.Reads as reads

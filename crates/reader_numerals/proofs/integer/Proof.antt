@@ -1,6 +1,5 @@
 -- `reader_numerals::integer` meets its contract.
 use lib.ListN.{getD}
-use Prim.Native.Nat.{ℕ, _+_, _≤_}
 use native.Mathlib.Omega.{arith}
 use Rattle.reader_numerals.proofs.Naturals.{just-zero, with-sign, sign-small}
 use borrow.Author.Needs.{needs}

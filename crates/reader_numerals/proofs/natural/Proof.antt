@@ -1,5 +1,4 @@
 -- `reader_numerals::natural` meets its contract.
-use Prim.Native.Nat.{_≤_, _<_}
 use native.Mathlib.Omega.{arith}
 use Rattle.reader_numerals.proofs.Naturals.{none-left, none-low, none-high, too-large, in-range}
 use borrow.Author.Needs.{needs}

@@ -2,8 +2,8 @@
 -- tuple that it is has its fields' values with one fewer. The loop's invariant: the fields up to the present place, `Fields`.
 use native.Mathlib.Omega.{arith}
 use native.Mathlib.Nat.{pos-of-ne-zero}
-use mathlib.Core.Path.{_≡_, refl, sym, ap, _∙_}
-use lib.ListN.{length, getD}
+use mathlib.Core.Path.{refl, sym, _∙_}
+use lib.ListN.{length}
 use denote.Ref.{now}
 use borrow.Author.Needs.{needs}
 use borrow.Author.Tests.{not-true, not-false}
@@ -11,7 +11,7 @@ use Rattle.reader_numerals.proofs.Steps.{there, not-there}
 use Rattle.reader_judging.proofs.Sorts.{nothing, no-integer, an-integer, too-deep, stuck, a-tuple}
 use Rattle.reader_judging.proofs.Tuples.{Fields, no-fields, first-field, field-room, bad-field, closer-room, more-fields, closed}
 use Rattle.reader_judging.proofs.Chains.{inner-room, no-inner, sums, not-closed, a-chain}
-use Prim.Native.Nat.{ℕ, _+_, _-_, _*_, _≤_, _<_}
+use Prim.Native.Nat.{ℕ, _+_, _-_, _*_, _<_}
 use borrow.Fn.Kinds.{In}
 use borrow.Fn.PlainCycle.{Measures, is, falls, and}
 use Rattle.reader_judging.proofs.values.innermost.Reads as innermost

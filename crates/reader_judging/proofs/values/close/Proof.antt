@@ -1,6 +1,5 @@
 -- `reader_judging::values::close` meets its contract.
 use native.Mathlib.Omega.{arith}
-use mathlib.Core.Path.{refl}
 use borrow.Author.Tests.{not-true, not-false}
 use Rattle.reader_numerals.proofs.Steps.{there, not-there}
 use borrow.Author.Needs.{needs}

@@ -1,11 +1,8 @@
 -- `reader_judging::values::openings` meets its contract.
-use Prim.Native.Nat.{ℕ, _+_, _-_, _≤_, _<_}
+use Prim.Native.Nat.{_-_}
 use native.Mathlib.Omega.{arith}
-use mathlib.Core.Path.{_≡_}
-use mathlib.Core.Bool.{Bool}
 use borrow.Author.Needs.{needs}
 use borrow.Author.Tests.{not-true, not-false}
-use Rattle.reader_judging.specs.Places.{OpensOne}
 use Rattle.reader_judging.proofs.Chains.{Opening, none-opened, all-opened, no-more-opened, one-opened}
 use Rattle.reader_judging.proofs.values.openings.Statement.{statement}
 use Rattle.reader_judging.proofs.values.openings.Tie as tie

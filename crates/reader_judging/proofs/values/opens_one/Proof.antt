@@ -1,6 +1,5 @@
 -- `reader_judging::values::opens_one` meets its contract.
 use Prim.Native.Nat.{_+_}
-use native.Mathlib.Omega.{arith}
 use borrow.Author.Tests.{not-true, not-false}
 use Rattle.reader_numerals.proofs.Steps.{there, not-there}
 use Rattle.reader_judging.proofs.Chains.{no-brace, no-one, equals}

@@ -1,6 +1,6 @@
 -- `reader_placing::counts::count_fields` meets its contract. The loop's invariant: the open counts, the counts that are stored and
 -- the place of the first of these are the tally of the bytes that were passed.
-use Prim.Native.Nat.{_-_, _≤_}
+use Prim.Native.Nat.{_≤_}
 use native.Mathlib.Omega.{arith}
 use mathlib.Core.Path.{refl, sym, _∙_}
 use borrow.Author.Needs.{needs}
