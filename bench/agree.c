@@ -1,6 +1,6 @@
-/* Every contender against the model of tests/c on small heaps at random, sound and damaged: the same verdict, the same
-   words, roots and record; and a check leaves all as it was. And every twin against its call: the same struct returned,
-   the same words and roots left. */
+/* Every contender against the model of tests/c on small heaps at random, sound and damaged: the same verdict and
+   numbers, the same words, roots and record; and a check leaves all as it was. And every twin against its call: the
+   same struct returned, the same words and roots left. */
 #include <stdio.h>
 #include <stdlib.h>
 #include <string.h>
@@ -19,13 +19,13 @@
 #define MOST_BYTES 120
 
 /* A collector's verdict is the refusal. One that takes the heap to be sound gets only sound ones. */
-static uint32_t sound_bare(struct state *s) { return bare_collect(s), 0; }
-static uint32_t sound_bare_used(struct state *s) { return bare_collect_used(s), 0; }
-static uint32_t sound_engine(struct state *s) { return engine_collect(s), 0; }
+static uint32_t sound_bare(struct state *s, struct counts *c) { return *c = bare_collect(s), 0; }
+static uint32_t sound_bare_used(struct state *s, struct counts *c) { return *c = bare_collect_used(s), 0; }
+static uint32_t sound_engine(struct state *s, struct counts *c) { return *c = engine_collect(s), 0; }
 
 static const struct {
   const char *name;
-  uint32_t (*collect)(struct state *s);
+  uint32_t (*collect)(struct state *s, struct counts *counts);
   int only_sound;
 } collectors[] = {{"bare", sound_bare, 1},     {"bare-used", sound_bare_used, 1},     {"engine", sound_engine, 1},
                   {"full", full_collect, 0},   {"full-words", full_collect_words, 0}, {"collect", archive_collect, 0}};
@@ -59,12 +59,15 @@ static void hold(const struct state *start, int sound, unsigned long heap) {
   static uint32_t words[2][MOST_WORDS], roots[2][MOST_ROOTS];
   struct call call = {COLLECT, 0, 0, 0, 0, 0, {0, 0, 0}, NULL};
   struct state expected = again(start, words[0], roots[0]), s;
-  uint32_t refusal = model_call(&expected, &call).refusal;
+  struct said said = model_call(&expected, &call);
   size_t i;
   for (i = 0; i < sizeof collectors / sizeof *collectors; i++) {
+    struct counts counts = {0, 0, 0};
+    int verdict;
     if (collectors[i].only_sound && !sound) continue;
     s = again(start, words[1], roots[1]);
-    compare(&s, &expected, collectors[i].collect(&s) == refusal, collectors[i].name, heap);
+    verdict = collectors[i].collect(&s, &counts) == said.refusal;
+    compare(&s, &expected, verdict && memcmp(&counts, &said.counts, sizeof counts) == 0, collectors[i].name, heap);
   }
   for (i = 0; i < sizeof checkers / sizeof *checkers; i++) {
     s = again(start, words[1], roots[1]);

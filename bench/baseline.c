@@ -39,24 +39,36 @@ static inline uint32_t *copy_words(uint32_t *to, const uint32_t *from, uint32_t 
   return end;
 }
 
+/* Where the next copy goes; and how many addresses led to an object that was copied then, and to one copied before. One
+   of the two rises at each address: their sum is the addresses met, which need no count of their own. */
+struct copying {
+  uint32_t *free;
+  uint32_t copied, found;
+};
+
 /* The new address of the object at an address; it is copied to the free words when it is met first. */
-static inline uint32_t forward(uint32_t *heap, uint32_t address, uint32_t **free) {
-  uint32_t *object = at_address(heap, address), *copy = *free;
+static inline uint32_t forward(uint32_t *heap, uint32_t address, struct copying *c) {
+  uint32_t *object = at_address(heap, address), *copy = c->free;
   uint32_t header = *object, to;
-  if (header & 1) return header - 1;
+  if (header & 1) {
+    c->found++;
+    return header - 1;
+  }
+  c->copied++;
   to = address_of(heap, copy);
   *object = to + 1;
   *copy = header;
-  *free = copy_words(copy + 1, object + 1, count_of(header));
+  c->free = copy_words(copy + 1, object + 1, count_of(header));
   return to;
 }
 
-/* Roots, then the copies in their order. Answers the word past the copies. */
-static inline uint32_t *copy_reachable(uint32_t *heap, uint32_t *root, size_t root_count, uint32_t *scan) {
-  uint32_t *free = scan, *end;
+/* Roots, then the copies in their order. Answers the word past the copies, and what was met. */
+static inline struct copying copy_reachable(uint32_t *heap, uint32_t *root, size_t root_count, uint32_t *scan) {
+  struct copying c = {scan, 0, 0};
+  uint32_t *end;
   for (end = root + root_count; root < end; root++)
-    if (is_address(*root)) *root = forward(heap, *root, &free);
-  while (scan < free) {
+    if (is_address(*root)) *root = forward(heap, *root, &c);
+  while (scan < c.free) {
     uint32_t header = *scan++;
     end = scan + count_of(header);
     if (RARELY(header >> 31)) { /* a jump, not a move that the next load would wait for */
@@ -64,24 +76,27 @@ static inline uint32_t *copy_reachable(uint32_t *heap, uint32_t *root, size_t ro
       continue;
     }
     for (; scan < end; scan++)
-      if (is_address(*scan)) *scan = forward(heap, *scan, &free);
+      if (is_address(*scan)) *scan = forward(heap, *scan, &c);
   }
-  return free;
+  return c;
 }
 
 /* Copies to the other half and clears `words` words of this one. */
-static inline uint32_t collect_sound(struct state *s, uint32_t words) {
+static inline struct counts collect_sound(struct state *s, uint32_t words) {
   uint32_t *heap = s->heap, old = first_word(s->words, s->half), new = first_word(s->words, !s->half);
-  uint32_t *end = copy_reachable(heap, s->roots, s->root_count, heap + new);
+  struct copying c = copy_reachable(heap, s->roots, s->root_count, heap + new);
+  struct counts counts = {(uint32_t)(c.free - heap) - new, c.copied, c.copied + c.found};
   memset(heap + old, 0, words * sizeof *heap);
   s->half = !s->half;
-  s->free = (uint32_t)(end - heap);
-  return s->free - new;
+  s->free = new + counts.live;
+  return counts;
 }
 
-uint32_t bare_collect(struct state *s) { return collect_sound(s, half_size(s->words)); }
+struct counts bare_collect(struct state *s) { return collect_sound(s, half_size(s->words)); }
 
-uint32_t bare_collect_used(struct state *s) { return collect_sound(s, s->free - first_word(s->words, s->half)); }
+struct counts bare_collect_used(struct state *s) {
+  return collect_sound(s, s->free - first_word(s->words, s->half));
+}
 
 /* ---- the check ---- */
 
@@ -170,17 +185,17 @@ int full_check_words(struct state *s) { return check_with(s, 1); }
 
 /* ---- (b) the collection with all duties ---- */
 
-uint32_t full_collect(struct state *s) {
+uint32_t full_collect(struct state *s, struct counts *counts) {
   if (misshapen(s)) return SHAPE;
   if (!full_check(s)) return DAMAGED;
-  bare_collect_used(s);
+  *counts = bare_collect_used(s);
   return 0;
 }
 
-uint32_t full_collect_words(struct state *s) {
+uint32_t full_collect_words(struct state *s, struct counts *counts) {
   if (misshapen(s)) return SHAPE;
   if (!full_check_words(s)) return DAMAGED;
-  bare_collect_used(s);
+  *counts = bare_collect_used(s);
   return 0;
 }
 
@@ -198,8 +213,9 @@ static inline int fits(const struct state *s, size_t n) { return n < spare(s->wo
 
 static __attribute__((noinline, cold)) uint32_t collect_and_place(struct state *s, size_t n, size_t to, int untraced,
                                                                   int bare) {
+  struct counts untold; /* an allocation says "done" and nothing more */
   if (bare) bare_collect(s);
-  else if (full_collect(s)) return DAMAGED;
+  else if (full_collect(s, &untold)) return DAMAGED;
   return fits(s, n) ? place_in(s, (uint32_t)n, to, untraced) : ROOM;
 }
 

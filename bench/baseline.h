@@ -5,15 +5,16 @@
 
 #include "../tests/c/model.h"
 
-/* (a) Cheney's copying and nothing else, of a heap taken to be sound. Answers the live words.
+/* (a) Cheney's copying and nothing else, of a heap taken to be sound. Answers document 02's three numbers (Q-3).
    The first clears the whole old half; the second only its used words, which is enough if the rest was 0. */
-uint32_t bare_collect(struct state *s);
-uint32_t bare_collect_used(struct state *s);
+struct counts bare_collect(struct state *s);
+struct counts bare_collect_used(struct state *s);
 
 /* (b) All the duties of document 01's collect: SHAPE, the tests for 0, the tiling with its marks, roots, fields, copy,
-   clear. Answers 0, SHAPE (1) or DAMAGED (8). The first marks a header by one bit, the second by one word. */
-uint32_t full_collect(struct state *s);
-uint32_t full_collect_words(struct state *s);
+   clear, and the three numbers. Answers 0, SHAPE (1) or DAMAGED (8); a refusal leaves the numbers as they were. The
+   first marks a header by one bit, the second by one word. */
+uint32_t full_collect(struct state *s, struct counts *counts);
+uint32_t full_collect_words(struct state *s, struct counts *counts);
 
 /* The check that these begin with: 1 if the heap is sound, else 0. No word differs afterwards. */
 int full_check(struct state *s);

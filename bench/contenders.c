@@ -26,10 +26,13 @@ static phachunoi_record record_of(const struct state *s) {
   return record;
 }
 
-uint32_t archive_collect(struct state *s) {
+uint32_t archive_collect(struct state *s, struct counts *counts) {
   phachunoi_collected c = phachunoi_collect(s->heap, s->words, s->roots, s->root_count, record_of(s));
   s->half = c.record.half;
   s->free = c.record.free;
+  counts->live = c.live;
+  counts->objects = c.objects;
+  counts->addresses = c.addresses;
   return c.refusal;
 }
 
@@ -50,14 +53,14 @@ struct record {
 };
 
 struct collected {
-  uint32_t live;
+  struct counts counts; /* Rattle's have the same entries in the same order */
   struct record record;
 };
 
 void collect_sound(struct collected *to, const struct slice *heap, const struct slice *roots,
                    const struct record *record) __asm__("engine::collect_sound");
 
-uint32_t engine_collect(struct state *s) {
+struct counts engine_collect(struct state *s) {
   struct slice heap, roots;
   struct record record;
   struct collected done;
@@ -70,10 +73,12 @@ uint32_t engine_collect(struct state *s) {
   collect_sound(&done, &heap, &roots, &record);
   s->half = done.record.half;
   s->free = (uint32_t)done.record.free;
-  return done.live;
+  return done.counts;
 }
 
 /* ---- some times in a row ---- */
+
+struct counts counted;
 
 static void expect(int done) {
   if (done) return;
@@ -82,27 +87,27 @@ static void expect(int done) {
 }
 
 static void run_bare(struct state *s, size_t times) {
-  while (times-- > 0) bare_collect(s);
+  while (times-- > 0) counted = bare_collect(s);
 }
 
 static void run_bare_used(struct state *s, size_t times) {
-  while (times-- > 0) bare_collect_used(s);
+  while (times-- > 0) counted = bare_collect_used(s);
 }
 
 static void run_engine(struct state *s, size_t times) {
-  while (times-- > 0) engine_collect(s);
+  while (times-- > 0) counted = engine_collect(s);
 }
 
 static void run_full(struct state *s, size_t times) {
-  while (times-- > 0) expect(full_collect(s) == 0);
+  while (times-- > 0) expect(full_collect(s, &counted) == 0);
 }
 
 static void run_full_words(struct state *s, size_t times) {
-  while (times-- > 0) expect(full_collect_words(s) == 0);
+  while (times-- > 0) expect(full_collect_words(s, &counted) == 0);
 }
 
 static void run_collect(struct state *s, size_t times) {
-  while (times-- > 0) expect(archive_collect(s) == 0);
+  while (times-- > 0) expect(archive_collect(s, &counted) == 0);
 }
 
 static void run_full_check(struct state *s, size_t times) {

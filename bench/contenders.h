@@ -8,16 +8,18 @@
 /* A heap in the struct of the header. */
 phachunoi_heap heap_of(const struct state *s);
 
-/* The archive's calls: the refusal, and whether the heap is sound. */
-uint32_t archive_collect(struct state *s);
+/* The archive's calls: the refusal, with the numbers told even then; and whether the heap is sound. */
+uint32_t archive_collect(struct state *s, struct counts *counts);
 int archive_check(struct state *s);
 
-/* The archive's collector without its check, of a sound heap: the function engine::collect_sound. Answers the live
-   words. */
-uint32_t engine_collect(struct state *s);
+/* The archive's collector without its check, of a sound heap: the function engine::collect_sound. */
+struct counts engine_collect(struct state *s);
 
 /* First those that collect, of which growth is measured of the first four; then those that check. */
 enum { GROWING = 4, COLLECTORS = 6, CHECKERS = 3 };
 extern const struct contender contenders[COLLECTORS + CHECKERS];
+
+/* What the last collection of a contender answered: each keeps its numbers, as a host that wants them does. */
+extern struct counts counted;
 
 #endif

@@ -148,7 +148,8 @@ static inline phachunoi_result resulted(uint32_t refusal, phachunoi_record recor
 static __attribute__((noinline, cold)) uint32_t make_room(uint32_t *heap, size_t word_count, uint32_t *roots,
                                                           size_t root_count, phachunoi_record *record, size_t words) {
   struct state s = {heap, word_count, roots, root_count, record->half, record->free, NULL, 0};
-  uint32_t refusal = full_collect(&s);
+  struct counts untold; /* a read says "done" and nothing more */
+  uint32_t refusal = full_collect(&s, &untold);
   if (refusal != 0) return refusal;
   record->half = s.half;
   record->free = s.free;

@@ -49,12 +49,15 @@ phachunoi_answer twin_check(uint32_t *heap, size_t word_count, const uint32_t *r
 phachunoi_collected twin_collect(uint32_t *heap, size_t word_count, uint32_t *roots, size_t root_count,
                                  phachunoi_record record) {
   struct state s = state_of(heap, word_count, roots, root_count, record);
-  phachunoi_collected c = {0, 0, record};
-  c.refusal = full_collect(&s);
+  phachunoi_collected c = {0, 0, 0, 0, record};
+  struct counts counts;
+  c.refusal = full_collect(&s, &counts);
   if (c.refusal != 0) return c;
+  c.live = counts.live;
+  c.objects = counts.objects;
+  c.addresses = counts.addresses;
   c.record.half = s.half;
   c.record.free = s.free;
-  c.live = s.free - first_word(word_count, s.half);
   return c;
 }
 

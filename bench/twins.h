@@ -44,11 +44,12 @@ phachunoi_written twin_write(const uint32_t *heap, size_t word_count, const uint
 phachunoi_result twin_read(uint32_t *heap, size_t word_count, uint32_t *roots, size_t root_count,
                            phachunoi_record record, size_t to, const char *text, size_t bytes);
 
-#define EACH_CALL(of)                                                                                                \
-  of(version) of(fresh) of(check) of(collect) of(allocate_traced) of(allocate_untraced) of(set_integer) of(set_null) \
-  of(set_code) of(copy) of(load) of(store) of(raw_read) of(raw_write) of(same) of(inspect) of(open) of(word)        \
+#define EACH_CALL_BUT_COLLECT(of)                                                                             \
+  of(version) of(fresh) of(check) of(allocate_traced) of(allocate_untraced) of(set_integer) of(set_null)      \
+  of(set_code) of(copy) of(load) of(store) of(raw_read) of(raw_write) of(same) of(inspect) of(open) of(word)  \
   of(write) of(read)
 #define NOTHING(call) extern __typeof__(phachunoi_##call) nothing_##call;
-EACH_CALL(NOTHING)
+EACH_CALL_BUT_COLLECT(NOTHING)
+NOTHING(collect)
 
 #endif

@@ -48,12 +48,12 @@ static int call(phachunoi_heap *heap, size_t closure, int argument) {
 
 int main(void) {
   phachunoi_heap heap;
-  uint32_t live;
+  phachunoi_counts counts;
   must(phachunoi_heap_begin(&heap, words, 32, roots, ROOTS));
   make(&heap, 0, 100, PLUS);
   make(&heap, 1, 3, TIMES);
   printf("before: address %u, 3 * 13 is %d\n", (unsigned)roots[TIMES], call(&heap, TIMES, 13));
-  must(phachunoi_heap_collect(&heap, &live));
+  must(phachunoi_heap_collect(&heap, &counts));
   printf("after:  address %u, 3 * 14 is %d\n", (unsigned)roots[TIMES], call(&heap, TIMES, 14));
   printf("100 + 5 is %d\n", call(&heap, PLUS, 5));
 }

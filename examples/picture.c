@@ -45,12 +45,12 @@ static void show_in(const char *folder, const char *name, shower *show, const ph
 
 int main(int argc, char **argv) {
   phachunoi_heap heap;
-  uint32_t live;
+  phachunoi_counts counts;
   if (argc != 2) return fputs("usage: picture FOLDER\n", stderr), 2;
   build(&heap);
   show_in(argv[1], "p5-before.txt", phachunoi_show_text, &heap);
   show_in(argv[1], "p5-before.dot", phachunoi_show_graph, &heap);
-  must(phachunoi_heap_collect(&heap, &live));
+  must(phachunoi_heap_collect(&heap, &counts));
   show_in(argv[1], "p5-after.txt", phachunoi_show_text, &heap);
   show_in(argv[1], "p5-after.dot", phachunoi_show_graph, &heap);
   return 0;

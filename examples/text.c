@@ -40,7 +40,7 @@ static void go_round(phachunoi_heap *heap, const char *text) {
 
 int main(void) {
   phachunoi_heap heap;
-  uint32_t live;
+  phachunoi_counts counts;
   must(phachunoi_heap_begin(&heap, words, 32, roots, ROOTS));
   must(phachunoi_heap_allocate_traced(&heap, 2, PART));
   put_integer(&heap, PART, 0, 23);
@@ -54,7 +54,7 @@ int main(void) {
   show(&heap, WHOLE, 100); /* the new object's field is null, and null has no text */
   show(&heap, WHOLE, 10);  /* the bytes run out before null is met */
   put_integer(&heap, PART, 0, 7);
-  must(phachunoi_heap_collect(&heap, &live));
+  must(phachunoi_heap_collect(&heap, &counts));
   show(&heap, WHOLE, 100);
   go_round(&heap, "(1,(2,3),{1=()})");
   go_round(&heap, "(1, 2)"); /* there are no blanks in a text */

@@ -26,7 +26,7 @@ static int read_field(phachunoi_heap *heap, size_t field) {
 
 int main(void) {
   phachunoi_heap heap;
-  uint32_t live;
+  phachunoi_counts counts;
   must(phachunoi_heap_begin(&heap, words, HALF, roots, ROOTS));
   must(phachunoi_heap_allocate_untraced(&heap, 5, WORK)); /* garbage, as soon as WORK holds something else */
   must(phachunoi_heap_allocate_traced(&heap, 2, TUPLE));
@@ -35,8 +35,8 @@ int main(void) {
   must(phachunoi_heap_set_integer(&heap, WORK, 42));
   must(phachunoi_heap_store(&heap, TUPLE, 1, WORK));
   printf("before: address %u\n", (unsigned)roots[TUPLE]);
-  must(phachunoi_heap_collect(&heap, &live));
-  printf("after:  address %u, %u words live\n", (unsigned)roots[TUPLE], (unsigned)live);
+  must(phachunoi_heap_collect(&heap, &counts));
+  printf("after:  address %u, %u words live\n", (unsigned)roots[TUPLE], (unsigned)counts.live);
   printf("(%d, %d)\n", read_field(&heap, 0), read_field(&heap, 1));
   return 0;
 }

@@ -45,9 +45,9 @@ extern "C" {
 /* ---- Part 1: limits and numbers ------------------------------------------------------------------------------- */
 
 #define PHACHUNOI_VERSION_MAJOR 0
-#define PHACHUNOI_VERSION_MINOR 4
+#define PHACHUNOI_VERSION_MINOR 5
 #define PHACHUNOI_VERSION_PATCH 0
-#define PHACHUNOI_VERSION_NUMBER 4000 /* major * 1000000 + minor * 1000 + patch */
+#define PHACHUNOI_VERSION_NUMBER 5000 /* major * 1000000 + minor * 1000 + patch */
 
 #define PHACHUNOI_MAX_HALF 1048576u /* words in a half, S */
 #define PHACHUNOI_MAX_ROOTS 65536u
@@ -110,11 +110,18 @@ typedef struct phachunoi_result {
   phachunoi_record record;
 } phachunoi_result;
 
-/* The answer of collect, with the record to pass to the next call: `live` is the total of n + 1 over the reachable
-   objects, the words in use now. */
+/* The answer of collect, with the record to pass to the next call. Three numbers to tune a heap by:
+
+     live         the total of n + 1 over the reachable objects: the words in use now, and the least S that holds them
+     objects      the reachable objects; live / objects is their mean size, with the header
+     addresses    the object addresses met in roots and in fields of reachable traced objects. Each meeting counts;
+                  code words, nulls, integers, raw words and what garbage holds do not. Each object is met once to be
+                  copied: addresses - objects is how often one was met again, 0 where nothing is shared. */
 typedef struct phachunoi_collected {
   uint32_t refusal;
   uint32_t live;
+  uint32_t objects;
+  uint32_t addresses;
   phachunoi_record record;
 } phachunoi_collected;
 
@@ -153,8 +160,9 @@ typedef struct phachunoi_written {
 typedef char phachunoi_layout_as_in_the_archive
     [sizeof(phachunoi_record) == 8 && offsetof(phachunoi_record, free) == 4 && sizeof(phachunoi_result) == 16 &&
              offsetof(phachunoi_result, value) == 4 && offsetof(phachunoi_result, record) == 8 &&
-             sizeof(phachunoi_collected) == 16 && offsetof(phachunoi_collected, live) == 4 &&
-             offsetof(phachunoi_collected, record) == 8 && sizeof(phachunoi_answer) == 8 &&
+             sizeof(phachunoi_collected) == 24 && offsetof(phachunoi_collected, live) == 4 &&
+             offsetof(phachunoi_collected, objects) == 8 && offsetof(phachunoi_collected, addresses) == 12 &&
+             offsetof(phachunoi_collected, record) == 16 && sizeof(phachunoi_answer) == 8 &&
              offsetof(phachunoi_answer, value) == 4 && sizeof(phachunoi_seen) == 16 &&
              offsetof(phachunoi_seen, kind) == 2 && offsetof(phachunoi_seen, integer) == 4 &&
              offsetof(phachunoi_seen, count) == 8 && offsetof(phachunoi_seen, code) == 12 &&
@@ -188,7 +196,7 @@ PHACHUNOI_API phachunoi_answer phachunoi_check(uint32_t *heap, size_t word_count
                                                size_t root_count, phachunoi_record record);
 
 /* Copies the reachable objects to the other half, breadth-first from root 0 on, packed; renames every address in roots
-   and fields; clears all other words. MOVES OBJECTS.
+   and fields; clears all other words. Answers live words, live objects and addresses met. MOVES OBJECTS.
    Refusals: SHAPE, DAMAGED. */
 PHACHUNOI_API phachunoi_collected phachunoi_collect(uint32_t *heap, size_t word_count, uint32_t *roots,
                                                     size_t root_count, phachunoi_record record);
@@ -359,10 +367,19 @@ static inline enum phachunoi_refusal phachunoi_heap_check(phachunoi_heap *h, int
   return phachunoi_heap_said(a);
 }
 
+/* The numbers of a collection, as phachunoi_collected has them. */
+typedef struct phachunoi_counts {
+  uint32_t live;
+  uint32_t objects;
+  uint32_t addresses;
+} phachunoi_counts;
+
 /* Moves objects. */
-static inline enum phachunoi_refusal phachunoi_heap_collect(phachunoi_heap *h, uint32_t *live) {
+static inline enum phachunoi_refusal phachunoi_heap_collect(phachunoi_heap *h, phachunoi_counts *counts) {
   phachunoi_collected c = phachunoi_collect(PHACHUNOI_LENT(h));
-  *live = c.live;
+  counts->live = c.live;
+  counts->objects = c.objects;
+  counts->addresses = c.addresses;
   h->record = c.record;
   return (enum phachunoi_refusal)c.refusal;
 }

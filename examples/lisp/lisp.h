@@ -46,6 +46,8 @@ struct lisp {
   phachunoi_heap heap;       /* heap.root_count is the height of the stack */
   size_t stack_limit;        /* how many roots there are to lend */
   unsigned long collections; /* seen from outside: the current half changes */
+  unsigned long asked_for;   /* of these, by the program: an allocation does not tell what its collection counted */
+  phachunoi_counts counts;   /* what the last of them answered */
   const char *at, *end;      /* the text still to be read */
 };
 
@@ -89,6 +91,8 @@ int byte_at(struct lisp *l, slot s, size_t i);
 enum fault put_byte(struct lisp *l, slot s, size_t i, int byte);
 
 enum fault intern(struct lisp *l, const char *name, size_t length, slot to);
+
+enum fault collect_now(struct lisp *l); /* l->counts gets the numbers */
 
 /* A tuple is a traced object without a type, as texts of Standard ML have them. It is no value of Lisp: only tuples.c
    holds some, and makes vectors of them. */

@@ -1,4 +1,5 @@
-/* The program: lisp HALF FILE runs the file in a heap of two halves of HALF words.
+/* The program: lisp HALF FILE runs the file in a heap of two halves of HALF words. The last line tells how often it
+ * collected, and what the last (collect) counted if there was one.
  * Exit status: 0 fine, 1 a fault of the Lisp program, 2 bad usage or an unsound heap, 3 no room. */
 #include <stdio.h>
 #include <stdlib.h>
@@ -59,6 +60,14 @@ static int load(struct lisp *l, const char *path) {
   return l->end < text + sizeof text;
 }
 
+static void tell(const struct lisp *l, enum fault fault, int sound) {
+  fprintf(stderr, "lisp: %s, %lu collections, ", faults[fault], l->collections);
+  if (l->asked_for > 0)
+    fprintf(stderr, "%lu of them asked for, the last with %u words, %u objects and %u addresses, ", l->asked_for,
+            (unsigned)l->counts.live, (unsigned)l->counts.objects, (unsigned)l->counts.addresses);
+  fprintf(stderr, "heap %s\n", sound ? "sound" : "NOT SOUND");
+}
+
 int main(int argc, char **argv) {
   struct lisp l;
   enum fault fault;
@@ -73,7 +82,7 @@ int main(int argc, char **argv) {
   if (fault == FINE) fault = run(&l);
   fflush(stdout);
   phachunoi_heap_check(&l.heap, &sound); /* the whole stack is still lent: it must be sound after a fault too */
-  fprintf(stderr, "lisp: %s, %lu collections, heap %s\n", faults[fault], l.collections, sound ? "sound" : "NOT SOUND");
+  tell(&l, fault, sound);
   if (!sound) return 2;
   return fault == FINE ? 0 : fault == NO_ROOM ? 3 : 1;
 }

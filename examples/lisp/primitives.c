@@ -171,6 +171,23 @@ static enum fault do_sml_to_vector(struct lisp *l, slot a, slot to) { return tex
 
 static enum fault do_vector_to_sml(struct lisp *l, slot a, slot to) { return vector_to_text(l, a, to); }
 
+/* ---- the heap ---- */
+
+/* To the list in slots a + 1 and a + 2. */
+static enum fault append_integer(struct lisp *l, slot a, int64_t value) {
+  TRY(set_integer(l, a, value));
+  return append(l, a, a + 1, a + 2);
+}
+
+/* The list of live words, live objects and addresses met. It has no arguments: their slots are free to make it in. */
+static enum fault do_collect(struct lisp *l, slot a, slot to) {
+  TRY(collect_now(l));
+  TRY(append_integer(l, a, l->counts.live));
+  TRY(append_integer(l, a, l->counts.objects));
+  TRY(append_integer(l, a, l->counts.addresses));
+  return copy(l, a + 1, to);
+}
+
 /* ---- output ---- */
 
 static enum fault do_display(struct lisp *l, slot a, slot to) {
@@ -217,6 +234,7 @@ static const struct {
              {"vector-length", 1, do_vector_length},
              {"sml->vector", 1, do_sml_to_vector},
              {"vector->sml", 1, do_vector_to_sml},
+             {"collect", 0, do_collect},
              {"display", 1, do_display},
              {"print", 1, do_print}};
 

@@ -196,6 +196,15 @@ enum fault write_tuple(struct lisp *l, slot s, char *text, size_t bytes, size_t 
   return fault_of(phachunoi_heap_write(&l->heap, s, text, bytes, length));
 }
 
+/* ---- a collection that the program asks for ---- */
+
+enum fault collect_now(struct lisp *l) {
+  TRY(fault_of(phachunoi_heap_collect(&l->heap, &l->counts)));
+  l->collections++;
+  l->asked_for++;
+  return FINE;
+}
+
 /* ---- symbols: one object for each name, in a list that hangs on the slot SYMBOLS ---- */
 
 static int is_named(struct lisp *l, slot string, const char *name, size_t length) {

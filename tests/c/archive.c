@@ -4,37 +4,37 @@
 #define LENT(s) (s)->heap, (s)->words, (s)->roots, (s)->root_count, record
 
 static struct said kept(struct state *s, phachunoi_result r) {
-  struct said said = {r.refusal, r.value, 0, 0, 0, 0, 0, 0};
+  struct said said = {.refusal = r.refusal, .value = r.value};
   s->half = r.record.half;
   s->free = r.record.free;
   return said;
 }
 
 static struct said collected(struct state *s, phachunoi_collected r) {
-  struct said said = {r.refusal, r.live, 0, 0, 0, 0, 0, 0};
+  struct said said = {.refusal = r.refusal, .counts = {r.live, r.objects, r.addresses}};
   s->half = r.record.half;
   s->free = r.record.free;
   return said;
 }
 
 static struct said answered(phachunoi_answer a) {
-  struct said said = {a.refusal, a.value, 0, 0, 0, 0, 0, 0};
+  struct said said = {.refusal = a.refusal, .value = a.value};
   return said;
 }
 
 static struct said seen(phachunoi_seen a) {
-  struct said said = {a.refusal, 0, a.kind, a.integer, a.count, 0, a.code, 0};
+  struct said said = {
+      .refusal = a.refusal, .kind = a.kind, .integer = a.integer, .count = a.count, .code = a.code};
   return said;
 }
 
 static struct said opened(phachunoi_window a) {
-  struct said said = {a.refusal, 0, 0, 0, a.count, a.first, 0, 0};
+  struct said said = {.refusal = a.refusal, .count = a.count, .first = a.first};
   return said;
 }
 
 static struct said written(phachunoi_written a) {
-  struct said said = {(uint32_t)a.refusal, 0, 0, 0, 0, 0, 0, 0};
-  said.length = a.length;
+  struct said said = {.refusal = (uint32_t)a.refusal, .length = a.length};
   if (a.refusal > 12) said.refusal = 77; /* one that is no refusal shows, in its upper half too */
   return said;
 }
@@ -45,7 +45,7 @@ static phachunoi_window window_of(const struct call *c) {
 }
 
 static struct said plain_call(struct state *s, const struct call *c) {
-  struct said nothing = {0, 0, 0, 0, 0, 0, 0, 0};
+  struct said nothing = {0};
   phachunoi_record record = {s->half, s->free};
   switch (c->op) {
   case FRESH: return kept(s, phachunoi_fresh(s->heap, s->words, record));
@@ -72,6 +72,8 @@ static struct said plain_call(struct state *s, const struct call *c) {
   return nothing;
 }
 
+/* ---- through the struct; 77 stands where an answer is due, so that one that is not written shows ---- */
+
 /* The calls that only answer a refusal. */
 static uint32_t struct_refusal(phachunoi_heap *h, const struct state *s, const struct call *c) {
   switch (c->op) {
@@ -89,18 +91,27 @@ static uint32_t struct_refusal(phachunoi_heap *h, const struct state *s, const s
 }
 
 static struct said struct_write(const phachunoi_heap *h, const struct state *s, size_t root) {
-  struct said said = {0, 0, 0, 0, 0, 0, 0, 77};
+  struct said said = {.length = 77};
   said.refusal = phachunoi_heap_write(h, root, s->text, s->bytes, &said.length);
   return said;
 }
 
+static struct said struct_collect(phachunoi_heap *h) {
+  phachunoi_counts counts = {77, 77, 77};
+  struct said said = {.refusal = phachunoi_heap_collect(h, &counts)};
+  said.counts.live = counts.live;
+  said.counts.objects = counts.objects;
+  said.counts.addresses = counts.addresses;
+  return said;
+}
+
 static struct said struct_answer(phachunoi_heap *h, const struct state *s, const struct call *c) {
-  struct said said = {0, 77, 0, 0, 0, 0, 0, 0}; /* 77: an answer that is not written shows */
+  struct said said = {.value = 77};
   int yes = 77;
   switch (c->op) {
   case CHECK: said.refusal = phachunoi_heap_check(h, &yes); break;
   case SAME: said.refusal = phachunoi_heap_same(h, c->a, c->c, &yes); break;
-  case COLLECT: return said.refusal = phachunoi_heap_collect(h, &said.value), said;
+  case COLLECT: return struct_collect(h);
   case RAW_READ: return said.refusal = phachunoi_heap_raw_read(h, c->a, c->b, &said.value), said;
   case WORD: return said.refusal = phachunoi_heap_word(h, window_of(c), c->b, &said.value), said;
   case INSPECT: return seen(phachunoi_heap_inspect(h, c->a));

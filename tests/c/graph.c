@@ -36,38 +36,42 @@ void graph_start(size_t count, uint32_t half) {
   limit = half;
 }
 
-/* ---- live words ---- */
+/* ---- the numbers of a collection: words and nodes that are live, and edges to nodes ---- */
 
 static size_t queued;
 
-static void reach(struct value v) {
-  if (v.what != NODE || seen[v.is]) return;
+/* Answers the edges that lead to it here: one if it is a node, be it new or not. */
+static uint32_t reach(struct value v) {
+  if (v.what != NODE) return 0;
+  if (!seen[v.is]) queue[queued++] = v.is;
   seen[v.is] = 1;
-  queue[queued++] = v.is;
+  return 1;
 }
 
-static void reach_fields(const struct node *n) {
-  uint32_t k;
-  if (n->untraced) return;
-  for (k = 0; k < n->count; k++) reach(cells[n->first + k]);
+static uint32_t reach_fields(const struct node *n) {
+  uint32_t k, edges = 0;
+  if (n->untraced) return 0;
+  for (k = 0; k < n->count; k++) edges += reach(cells[n->first + k]);
+  return edges;
 }
 
-uint32_t graph_live(void) {
-  uint32_t live = 0;
+static struct counts count_live(void) {
+  struct counts c = {0, 0, 0};
   size_t i;
   memset(seen, 0, node_count);
   queued = 0;
-  for (i = 0; i < root_count; i++) reach(roots[i]);
+  for (i = 0; i < root_count; i++) c.addresses += reach(roots[i]);
   for (i = 0; i < queued; i++) {
-    live += nodes[queue[i]].count + 1;
-    reach_fields(&nodes[queue[i]]);
+    c.live += nodes[queue[i]].count + 1;
+    c.addresses += reach_fields(&nodes[queue[i]]);
   }
-  return live;
+  c.objects = (uint32_t)queued;
+  return c;
 }
 
 /* ---- the calls ---- */
 
-static int no_room(uint64_t words) { return limit != GRAPH_NO_LIMIT && graph_live() + words > limit; }
+static int no_room(uint64_t words) { return limit != GRAPH_NO_LIMIT && count_live().live + words > limit; }
 
 static struct value node(size_t n, int untraced) {
   struct value made = {NODE, (int64_t)node_count};
@@ -191,7 +195,7 @@ static uint32_t read_root(size_t to, const char *text, size_t bytes) {
 /* ---- all calls ---- */
 
 struct said graph_holds(size_t root) {
-  struct said r = {0, 0, 0, 0, 0, 0, 0, 0};
+  struct said r = {0};
   if (root >= root_count) return r.refusal = 2, r;
   if (roots[root].what == NUMBER) return r.kind = 1, r.integer = (int32_t)roots[root].is, r;
   if (roots[root].what == CODE) return r.kind = 4, r.code = (uint32_t)roots[root].is, r;
@@ -202,10 +206,10 @@ struct said graph_holds(size_t root) {
 }
 
 struct said graph_call(const struct call *c) {
-  struct said r = {0, 0, 0, 0, 0, 0, 0, 0};
+  struct said r = {0};
   switch (c->op) {
   case CHECK: r.value = 1; break;
-  case COLLECT: r.value = graph_live(); break;
+  case COLLECT: r.counts = count_live(); break;
   case NEW_TRACED:
   case NEW_UNTRACED: r.refusal = new_node(c->a, c->b, c->op == NEW_UNTRACED); break;
   case SET_INTEGER: r.refusal = set_integer(c->a, c->integer); break;

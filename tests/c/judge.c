@@ -19,6 +19,7 @@ static uint64_t met_by[OPS][REFUSALS];      /* the same for each call */
 static uint64_t met_on_code[OPS][REFUSALS]; /* of these, where the object's root holds a code word */
 static uint64_t met_at_end[REFUSALS];       /* refusals of write at the place where the bytes run out as well */
 static uint64_t read_collected;             /* texts that were read after a collection */
+static uint64_t live_objects, shared_objects; /* collections that tell of some */
 
 void judge_part(const char *name) {
   part = name;
@@ -38,9 +39,14 @@ void judge_settle(void) { copy_lent(&theirs, &ours); }
 
 uint64_t judge_calls(void) { return calls; }
 
+int counts_equal(struct counts a, struct counts b) {
+  return a.live == b.live && a.objects == b.objects && a.addresses == b.addresses;
+}
+
 int said_equal(struct said a, struct said b) {
   return a.refusal == b.refusal && a.value == b.value && a.kind == b.kind && a.integer == b.integer &&
-         a.count == b.count && a.first == b.first && a.code == b.code && a.length == b.length;
+         a.count == b.count && a.first == b.first && a.code == b.code && a.length == b.length &&
+         counts_equal(a.counts, b.counts);
 }
 
 /* Cases get smaller as the run goes on; only those smaller than all before are printed. */
@@ -72,6 +78,11 @@ static void count_answer(const struct call *c, uint32_t refusal) {
   if (c->op == WRITE) met_at_end[refusal] += text_of_root(&before.s, c->a, c->b).at == c->b;
 }
 
+static void count_collection(struct counts c) {
+  live_objects += c.objects > 0;
+  shared_objects += c.addresses > c.objects;
+}
+
 struct said judge_call(const struct call *c) {
   struct said model, archive;
   copy_lent(&before, &ours);
@@ -79,6 +90,7 @@ struct said judge_call(const struct call *c) {
   lend_bytes(&theirs, c);
   model = model_call(&ours.s, c);
   count_answer(c, model.refusal);
+  count_collection(model.counts); /* all 0 if it is none */
   collections += c->op != FRESH && ours.s.half != before.s.half;
   read_collected += c->op == READ && model.refusal == 0 && ours.s.half != before.s.half;
   archive = archive_alone(&theirs.s, c);
@@ -137,6 +149,16 @@ static void show_met_of_code(uint64_t least) {
   show_each("code words", each, sizeof each / sizeof each[0], least);
 }
 
+/* What collect can say: its numbers tell little of heaps where nothing is live, or nothing shared. */
+static void show_met_of_collect(uint64_t least) {
+  static const struct counted each[] = {{"done", &met_by[COLLECT][0]},
+                                        {"with objects", &live_objects},
+                                        {"with shared ones", &shared_objects},
+                                        {"SHAPE", &met_by[COLLECT][1]},
+                                        {"DAMAGED", &met_by[COLLECT][8]}};
+  show_each("collect", each, sizeof each / sizeof each[0], least);
+}
+
 /* What write and read can say; and each fault of a value that stands where the bytes run out too, and must come
    first. */
 static void show_met_of_texts(uint64_t least) {
@@ -164,6 +186,7 @@ static void show_met_of_texts(uint64_t least) {
 
 int judge_verdict(uint64_t seed, uint64_t least) {
   show_met();
+  show_met_of_collect(least);
   show_met_of_code(least);
   show_met_of_texts(least);
   printf("check-c: %" PRIu64 " calls, %" PRIu64 " checks, %" PRIu64 " differences (seed %" PRIu64 ")\n", calls, checks,

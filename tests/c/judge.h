@@ -31,5 +31,6 @@ uint64_t judge_calls(void);
 struct said archive_alone(struct state *s, const struct call *c);
 
 int said_equal(struct said a, struct said b);
+int counts_equal(struct counts a, struct counts b);
 
 #endif

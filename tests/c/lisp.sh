@@ -7,6 +7,7 @@ cd "$(dirname "$0")/../.."
 lisp=$1
 said=target/c/lisp.said
 printed=target/c/lisp.printed
+told=target/c/lisp.told
 wrong=0
 
 complain() {
@@ -42,6 +43,18 @@ program() {
     run "$1" "$3" 3 "no room"
 }
 
+# What (collect) counted last stands beside the collections, and does not go by the size of the heap.
+same_numbers() {
+    : >$told
+    for size in 1048576 20000 "$2"; do
+        run "$1" $size 0 fine
+        sed -n 's/^lisp: fine, .* asked for, the last with \(.*\), heap sound$/\1/p' $said >>$told
+    done
+    [ "$(wc -l <$told)" -eq 3 ] || complain "$1: a last line without what (collect) counted"
+    [ "$(sort -u $told | wc -l)" -eq 1 ] || complain "$1: what (collect) counts goes by the size: $(paste -sd';' $told)"
+    echo "check-c: $1.lisp: equal numbers at three sizes, $(head -n 1 $told) at last"
+}
+
 # One line of Lisp that must end in the fault $1, with a sound heap.
 fault() {
     echo "$2" >target/c/fault.lisp
@@ -57,12 +70,15 @@ program strings 1800 1000
 program mutual 1800 1300
 program cycles 2300 1400
 program tuples 1800 1200
+program counts 1400 1000
+same_numbers counts 1400
 fault "wrong type" "(car 5)"
 fault "wrong type" "(string-length '(1))"
 fault "wrong type" "(car car)"
 fault "unbound name" "(print nobody)"
 fault "not a function" "(5 6)"
 fault "wrong count" "((lambda (x) x) 1 2)"
+fault "wrong count" "(collect 1)"
 fault "out of range" "(* 1073741823 2)"
 fault "out of range" "(vector-ref (make-vector 3 0) 3)"
 fault "bad text" "(print (1 2)"

@@ -1,4 +1,4 @@
-/* The model of documents 01 and 02: soundness, collection, then the calls one by one. */
+/* The model of documents 01 and 02: soundness, collection, then the calls one by one. */
 #include "model.h"
 
 #include <string.h>
@@ -100,19 +100,40 @@ static void write_copy(const struct state *s, uint32_t at, uint32_t first_copy) 
   for (k = 1; k <= fields_of(header); k++) to[k] = untraced(header) ? s->heap[at + k] : renamed(s->heap[at + k]);
 }
 
-static uint32_t collect_sound(struct state *s) {
+static uint32_t addresses_among(const uint32_t *words, size_t n) {
+  uint32_t addresses = 0;
+  size_t i;
+  for (i = 0; i < n; i++) addresses += !plain(words[i]);
+  return addresses;
+}
+
+/* Over the roots and the reachable objects as they lie before anything moves, and not while they are searched for. */
+static struct counts count_reachable(const struct state *s) {
+  struct counts c = {0, 0, 0};
+  size_t i;
+  c.addresses = addresses_among(s->roots, s->root_count);
+  for (i = 0; i < met; i++) {
+    const uint32_t *object = s->heap + order[i];
+    c.live += fields_of(*object) + 1;
+    c.objects++;
+    if (!untraced(*object)) c.addresses += addresses_among(object + 1, fields_of(*object));
+  }
+  return c;
+}
+
+static struct counts collect_sound(struct state *s) {
   uint32_t first_copy = first_word(s, 1 - s->half);
-  uint32_t live;
+  struct counts counts;
   size_t i;
   find_order(s, first_copy);
-  live = next_copy - first_copy;
+  counts = count_reachable(s);
   for (i = 0; i < met; i++) write_copy(s, order[i], first_copy);
   memset(s->heap, 0, s->words * sizeof s->heap[0]);
-  memcpy(s->heap + first_copy, new_half, live * sizeof new_half[0]);
+  memcpy(s->heap + first_copy, new_half, (next_copy - first_copy) * sizeof new_half[0]);
   for (i = 0; i < s->root_count; i++) s->roots[i] = renamed(s->roots[i]);
   s->half = 1 - s->half;
   s->free = next_copy;
-  return live;
+  return counts;
 }
 
 /* ---- the calls ---- */
@@ -125,10 +146,10 @@ static uint32_t fresh(struct state *s) {
   return 0;
 }
 
-static uint32_t collect(struct state *s, uint32_t *live) {
+static uint32_t collect(struct state *s, struct counts *counts) {
   if (bad_shape(s)) return SHAPE;
   if (!model_sound(s)) return DAMAGED;
-  *live = collect_sound(s);
+  *counts = collect_sound(s);
   return 0;
 }
 
@@ -233,7 +254,7 @@ static uint32_t same(const struct state *s, size_t one, size_t other, uint32_t *
 }
 
 static struct said inspect(const struct state *s, size_t root) {
-  struct said r = {0, 0, 0, 0, 0, 0, 0, 0};
+  struct said r = {0};
   uint32_t word;
   if (bad_shape(s)) return r.refusal = SHAPE, r;
   if (root >= s->root_count) return r.refusal = ROOT, r;
@@ -248,7 +269,7 @@ static struct said inspect(const struct state *s, size_t root) {
 }
 
 static struct said open_window(const struct state *s, size_t object) {
-  struct said r = {0, 0, 0, 0, 0, 0, 0, 0};
+  struct said r = {0};
   if (bad_shape(s)) return r.refusal = SHAPE, r;
   if (object >= s->root_count) return r.refusal = ROOT, r;
   if (!names(s, s->roots[object])) return r.refusal = OBJECT, r;
@@ -277,14 +298,14 @@ static uint32_t field_call(struct state *s, const struct call *c, uint32_t *valu
 }
 
 struct said model_call(struct state *s, const struct call *c) {
-  struct said r = {0, 0, 0, 0, 0, 0, 0, 0};
+  struct said r = {0};
   switch (c->op) {
   case FRESH: r.refusal = fresh(s); break;
   case CHECK:
     if (bad_shape(s)) r.refusal = SHAPE;
     else r.value = (uint32_t)model_sound(s);
     break;
-  case COLLECT: r.refusal = collect(s, &r.value); break;
+  case COLLECT: r.refusal = collect(s, &r.counts); break;
   case NEW_TRACED: r.refusal = allocate(s, c->b, c->a, 0); break;
   case NEW_UNTRACED: r.refusal = allocate(s, c->b, c->a, 1); break;
   case SET_INTEGER: r.refusal = set_integer(s, c->a, c->integer); break;

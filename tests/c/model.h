@@ -1,4 +1,4 @@
-/* A model of the heap in plain C, written from document 01 and document 02's Q-1 and Q-2, and from nothing else: what
+/* A model of the heap in plain C, written from document 01 and document 02's Q-1 to Q-3, and from nothing else: what
  * each call must answer and leave.
  *
  * It is slow and simple on purpose. A collection lists the reachable objects first and writes the new half afterwards,
@@ -39,16 +39,24 @@ struct call {
   const char *text;
 };
 
+/* The three numbers of a collection. */
+struct counts {
+  uint32_t live;      /* "the total of n + 1 over reachable objects" */
+  uint32_t objects;   /* "the live objects" */
+  uint32_t addresses; /* "the object addresses met in roots and in fields of live traced objects" */
+};
+
 /* Everything that a call can answer; what it does not name is 0. */
 struct said {
   uint32_t refusal;
-  uint32_t value; /* sound, live, the word, yes */
+  uint32_t value; /* sound, the word, yes */
   uint32_t kind;
   int32_t integer;
   uint32_t count;
   uint32_t first;
   uint32_t code;
   size_t length; /* of a text */
+  struct counts counts;
 };
 
 struct said model_call(struct state *s, const struct call *c);

@@ -47,6 +47,9 @@ static void read_some(struct call *c, char *text) {
   if (one_in(6)) c->b = broken_text(text, c->b);
 }
 
+/* Now and then one that looks like an address: a collection must neither follow nor count it. */
+static uint32_t raw_number(void) { return one_in(3) ? 4 * below(100) : (uint32_t)random_bits(); }
+
 /* One call in twenty names a bad root, kind or field: refusals are answers too. `text` is kept for what it reads. */
 static struct call session_call(char *text) {
   struct call c = call_of(session_op(), below((uint32_t)root_count), below(5), below((uint32_t)root_count));
@@ -56,7 +59,7 @@ static struct call session_call(char *text) {
     c.b = below(graph_holds(c.a).count);
   }
   c.integer = one_in(10) ? 1073741824 : (int64_t)below(2000) - 1000;
-  c.number = c.op == SET_CODE ? asked_code() : (uint32_t)random_bits();
+  c.number = c.op == SET_CODE ? asked_code() : raw_number();
   if (one_in(20)) c.a = below((uint32_t)root_count + 2);
   if (one_in(20)) c.b = one_in(2) && c.op != LOAD ? 1073741824 : below(8);
   if (c.op == WRITE) c.b = one_in(2) ? below(MOST_BYTES) : below(20);
@@ -103,7 +106,8 @@ static int run_at(uint32_t half, int collect_between) {
     expect(as_graph(&list[i], said, graph_call(&list[i]), graph_bytes()), "an answer is not the graph's at this size");
     no_room |= said.refusal == 9;
     if (!no_room) expect(as_graph(&list[i], said, unlimited[i], unlimited_bytes[i]), "an answer differs with the size");
-    if (collect_between) expect(judge_call(&collect).value == graph_live(), "live words of a collection between");
+    if (!collect_between) continue;
+    expect(said_equal(judge_call(&collect), graph_call(&collect)), "a collection between does not answer as the graph");
   }
   return no_room;
 }

@@ -74,9 +74,10 @@ void show_call(const struct call *c) {
 
 void show_said(const char *label, struct said said, const struct state *after) {
   printf("  %s refusal %" PRIu32 " value %" PRIx32 " kind %" PRIu32 " integer %" PRId32 " count %" PRIu32
-         " first %" PRIu32 " code %" PRIx32 " length %zu; half %" PRIu32 " free %" PRIu32 "\n",
-         label, said.refusal, said.value, said.kind, said.integer, said.count, said.first, said.code, said.length,
-         after->half, after->free);
+         " first %" PRIu32 " code %" PRIx32 " length %zu",
+         label, said.refusal, said.value, said.kind, said.integer, said.count, said.first, said.code, said.length);
+  printf(" live %" PRIu32 " objects %" PRIu32 " addresses %" PRIu32 "; half %" PRIu32 " free %" PRIu32 "\n",
+         said.counts.live, said.counts.objects, said.counts.addresses, after->half, after->free);
 }
 
 static void show_difference(const char *what, const uint32_t *model, const uint32_t *archive, size_t n) {

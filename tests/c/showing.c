@@ -233,12 +233,15 @@ static void right_verdict(const char *line) {
   uint32_t used = before.free - (before.half == 0 ? 1 : (uint32_t)(before.words / 2) + 1);
   unsigned long count = 0, words = 0, garbage = 0, dead = 0;
   int sound = model_sound(&before), said;
+  struct counts kept;
   said = sscanf(line, "%lu %*[objects] in %lu %*[words]; garbage: %lu in %lu", &count, &words, &garbage, &dead);
   expect(said == 4 && count == objects, "the number of objects");
   expect(ends_in(line, sound ? "; sound" : "; not sound: see the lines with !"), "the verdict is not the model's");
   check_graph(1, garbage);
   if (!sound) return;
-  expect(words == used && dead == used - judge_call(&collect).value, "garbage is not what a collection drops");
+  kept = judge_call(&collect).counts;
+  expect(words == used && dead == used - kept.live, "garbage is not what a collection drops");
+  expect(garbage == count - kept.objects, "the number of objects that a collection drops");
 }
 
 static void check_shown(void) {

@@ -1,5 +1,5 @@
-/* Document 01's worked heaps P1 to P10 and its Fresh cases, and cases of document 02's code words: the numbers written
-   there, and the model besides. */
+/* Document 01's worked heaps P1 to P10 and its Fresh cases, cases of document 02's code words, and of the numbers that
+   its collections answer: the numbers written there, and the model besides. */
 #include <string.h>
 
 #include "calls.h"
@@ -10,6 +10,20 @@
 static struct said call(enum op op, size_t a, size_t b, size_t c) {
   struct call made = call_of(op, a, b, c);
   return judge_call(&made);
+}
+
+/* A collection that is done, and answers these. */
+static int collects(uint32_t live, uint32_t objects, uint32_t addresses) {
+  struct counts counts = {live, objects, addresses};
+  struct said said = call(COLLECT, 0, 0, 0);
+  return said.refusal == 0 && counts_equal(said.counts, counts);
+}
+
+/* One that is refused, and so has no numbers. */
+static int collect_refused(uint32_t refusal) {
+  struct counts none = {0, 0, 0};
+  struct said said = call(COLLECT, 0, 0, 0);
+  return said.refusal == refusal && counts_equal(said.counts, none);
 }
 
 static uint32_t integer_word(int64_t v) {
@@ -54,12 +68,12 @@ static void p4(void) {
   write.number = text[2];
   judge_call(&write);
   expect(memcmp(judged()->heap + 1, text, sizeof text) == 0, "P4: the text before");
-  expect(call(COLLECT, 0, 0, 0).value == 3, "P4: three live words");
+  expect(collects(3, 1, 1), "P4: three live words");
   expect(memcmp(judged()->heap + 9, text, sizeof text) == 0, "P4: the text after");
   judged()->roots[0] = text[1];
   judge_settle();
   expect(inspects_code(text[1]), "P4: a root that holds the text's first word");
-  expect(call(COLLECT, 0, 0, 0).refusal == 0 && judged()->roots[0] == text[1], "P4: that root after a collection");
+  expect(collects(0, 0, 0) && judged()->roots[0] == text[1], "P4: that root after a collection");
 }
 
 static void on_p5(size_t roots) {
@@ -81,7 +95,7 @@ static int is_p5_result(void) {
 
 static void p5_to_p7(void) {
   on_p5(2);
-  expect(call(COLLECT, 0, 0, 0).value == 4 && is_p5_result(), "P5");
+  expect(collects(4, 2, 3) && is_p5_result(), "P5");
   on_p5(2);
   expect(call(NEW_TRACED, 1, 3, 0).refusal == 0, "P6 is done");
   expect(judged()->heap[13] == 6 && judged()->roots[1] == 52 && judged()->free == 17, "P6");
@@ -93,14 +107,17 @@ static void p8_to_p10(void) {
   on_p5(2);
   judged()->roots[0] = 12;
   judge_settle();
-  expect(call(COLLECT, 0, 0, 0).value == 3 && judged()->roots[0] == 36 && judged()->roots[1] == 36, "P8");
+  expect(collects(3, 1, 3) && judged()->roots[0] == 36 && judged()->roots[1] == 36, "P8");
   on_p5(2);
   judged()->roots[0] = 14;
   judge_settle();
-  expect(call(COLLECT, 0, 0, 0).refusal == 8 && call(INSPECT, 0, 0, 0).refusal == 5, "P9 with 14");
+  expect(collect_refused(8) && call(INSPECT, 0, 0, 0).refusal == 5, "P9 with 14");
   judged()->roots[0] = 16;
   judge_settle();
-  expect(call(COLLECT, 0, 0, 0).refusal == 8 && call(INSPECT, 0, 0, 0).refusal == 5, "P9 with 16");
+  expect(collect_refused(8) && call(INSPECT, 0, 0, 0).refusal == 5, "P9 with 16");
+  judged()->free = 18;
+  judge_settle();
+  expect(collect_refused(1), "P9 with a free index outside the half");
 }
 
 static void p10(void) {
@@ -111,7 +128,7 @@ static void p10(void) {
   memcpy(judged()->heap, words, sizeof words);
   judged()->free = 7;
   judge_settle();
-  expect(call(COLLECT, 0, 0, 0).value == 0 && judged()->half == 1 && judged()->free == 9, "P10");
+  expect(collects(0, 0, 0) && judged()->half == 1 && judged()->free == 9, "P10");
 }
 
 static uint32_t fresh_then(size_t n) {
@@ -141,7 +158,7 @@ static void p5_by_calls(void) {
   call(STORE, 1, 1, 0);
   call(NEW_TRACED, 0, 0, 0);
   expect(memcmp(judged()->heap, words, sizeof words) == 0 && judged()->free == 7, "P5 by calls: the words");
-  expect(call(COLLECT, 0, 0, 0).value == 4 && is_p5_result(), "P5 by calls: the collection");
+  expect(collects(4, 2, 3) && is_p5_result(), "P5 by calls: the collection");
 }
 
 /* ---- code words, on P5's start ---- */
@@ -171,9 +188,54 @@ static void code_words_collected(void) {
   judged()->roots[0] = 16777218;
   judged()->heap[5] = 16777228;
   judge_settle();
-  expect(call(COLLECT, 0, 0, 0).value == 3 && left(1, 12, words, 16777218, 36), "code words: a collection");
+  expect(collects(3, 1, 2) && left(1, 12, words, 16777218, 36), "code words: a collection");
   for (i = 0; i < sizeof ops / sizeof ops[0]; i++)
     expect(call(ops[i], 0, 0, 1).refusal == 5 && left(1, 12, words, 16777218, 36), "a code word names no object");
+}
+
+/* ---- the numbers of a collection ---- */
+
+/* Live words, objects and addresses, by the roots that P5's words have. */
+static const struct {
+  const char *wrong;
+  size_t root_count;
+  uint32_t roots[5], live, objects, addresses;
+} on_p5_words[] = {{"counts: P5", 2, {24, 12}, 4, 2, 3},
+                   {"counts: P8, one object in both roots", 2, {12, 12}, 3, 1, 3},
+                   {"counts: P10, no root", 0, {0}, 0, 0, 0},
+                   {"counts: one object twice, another, null, an integer", 5, {12, 12, 24, 0, 21}, 4, 2, 4},
+                   {"counts: a code word, and an object of no fields", 2, {16777216, 24}, 1, 1, 1},
+                   {"counts: what was garbage", 1, {4}, 2, 1, 1}};
+
+static void counts_by_roots(void) {
+  static const uint32_t words[7] = {0, 2, 1, 4, 12, 21, 0};
+  size_t i;
+  for (i = 0; i < sizeof on_p5_words / sizeof on_p5_words[0]; i++) {
+    judge_lend(17, on_p5_words[i].root_count);
+    memcpy(judged()->heap, words, sizeof words);
+    memcpy(judged()->roots, on_p5_words[i].roots, on_p5_words[i].root_count * sizeof words[0]);
+    judged()->free = 7;
+    judge_settle();
+    expect(collects(on_p5_words[i].live, on_p5_words[i].objects, on_p5_words[i].addresses), on_p5_words[i].wrong);
+  }
+}
+
+/* All that must not count, at once: null and a code word in roots and fields, a raw word that is an address, and
+   garbage that names what is live. One object is met twice in another, and one in a root and in a field. */
+static void counts_of_all_kinds(void) {
+  static const uint32_t before[14] = {0, 6, 20, 20, 16777220, 0x80000004u, 4, 8, 4, 4, 20, 4, 0, 4};
+  static const uint32_t after[27] = {0, 0,  0,  0,        0, 0, 0,  0,           0, 0, 0, 0, 0, 0,
+                                     6, 84, 84, 16777220, 4, 0, 56, 0x80000004u, 4, 8};
+  static const uint32_t roots[4] = {4, 0, 44, 16777216}, renamed[4] = {56, 0, 72, 16777216};
+  judge_lend(27, 4);
+  memcpy(judged()->heap, before, sizeof before);
+  memcpy(judged()->roots, roots, sizeof roots);
+  judged()->free = 14;
+  judge_settle();
+  expect(collects(10, 3, 5), "counts: values of all kinds");
+  expect(judged()->half == 1 && judged()->free == 24 && memcmp(judged()->heap, after, sizeof after) == 0 &&
+             memcmp(judged()->roots, renamed, sizeof renamed) == 0,
+         "counts: what that collection leaves");
 }
 
 void worked_heaps(void) {
@@ -188,4 +250,6 @@ void worked_heaps(void) {
   p5_by_calls();
   code_words_set();
   code_words_collected();
+  counts_by_roots();
+  counts_of_all_kinds();
 }

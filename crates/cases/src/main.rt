@@ -1,10 +1,11 @@
-// Every case of the definitions' tables in Worked, CodeWords, Unnamed, Unsound and EachCall, in their order,
-// through the compiled calls; those of TextCases are the program `text_cases`. A line for each: its name, the
+// Every case of the definitions' tables in Worked, CodeWords, Counting, Unnamed, Unsound and EachCall, in their
+// order, through the compiled calls; those of TextCases are the program `text_cases`. A line for each: its name, the
 // answers in numbers, and the record, words and roots that are left. The expected lines, worked out from
 // documents 01 and 02, stand in the file `stdout`, and the gate compares.
 mod calls;
 mod codes;
 mod collections;
+mod counting;
 mod fresh;
 mod integers;
 mod judge;
@@ -42,6 +43,7 @@ fn each_call() {
 fn main() {
     worked();
     codes::cases();
+    counting::cases();
     names::cases();
     unsound();
     each_call();

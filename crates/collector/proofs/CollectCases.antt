@@ -7,7 +7,7 @@ use Rattle.model.specs.Words.{State}
 use Rattle.model.specs.Headers.{Layout}
 use Rattle.model.specs.Shape.{badShape}
 use Rattle.model.specs.Soundness.{sound}
-use Rattle.model.specs.Collection.{live, collected}
+use Rattle.model.specs.Collection.{counts, collected}
 use Rattle.model.specs.Answers.{says, refuse}
 use Rattle.model.specs.Calls as Calls
 
@@ -20,6 +20,6 @@ module _ (Y : Layout) (s : State) where
   unfolding Calls.collect refuse
   collect-damaged b e = rw (b, e)
 
-  pub collect-live : badShape s ≡ false → sound Y s ≡ true → Calls.collect Y s ≡ says (Says.Live (live Y s)) (collected Y s)
+  pub collect-live : badShape s ≡ false → sound Y s ≡ true → Calls.collect Y s ≡ says (Says.Live (counts Y s)) (collected Y s)
   unfolding Calls.collect refuse
   collect-live b e = rw (b, e)

@@ -9,8 +9,8 @@ use model::Record;
 use model::Refusal;
 use model::say;
 
-// Copies what the roots reach to the other half, and clears this one: the live words, or SHAPE or DAMAGED.
-// Every object may move; the roots follow.
+// Copies what the roots reach to the other half, and clears this one: live words, live objects and addresses
+// met; or SHAPE or DAMAGED. Every object may move; the roots follow.
 pub fn collect(heap: &mut [u32], roots: &mut [u32], record: Record) -> Answered
     ensures { λ r. ⌜ outcome r heap roots ≡ Calls.collect Layouts.tuple (lent heap roots «record») ⌝ }
 {
@@ -19,9 +19,9 @@ pub fn collect(heap: &mut [u32], roots: &mut [u32], record: Record) -> Answered
     }
     if checker::is_sound(heap, roots, record) {
         let done = engine::collect_sound(heap, roots, record);
-        let live = done.live;
+        let counts = done.counts;
         let after = done.record;
-        return say(Answer::Live(live), after);
+        return say(Answer::Live(counts), after);
     }
     say(Answer::Refused(Refusal::Damaged), record)
 }

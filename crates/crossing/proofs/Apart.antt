@@ -22,20 +22,26 @@ use Rattle.model.specs.Sessions.{step}
 use Rattle.theory.proofs.PlainAnswers.{no-zero}
 use Rattle.theory.proofs.Telling.{heard, numbers-apart, read-back, fresh-back, number-back, apart-by-two}
 use Rattle.numbers.specs.Places.{holdsCode}
+use Rattle.crossing.specs.declared.CCollected.{CCollected}
 use Rattle.crossing.specs.declared.CSeen.{CSeen}
 use Rattle.crossing.specs.declared.CWritten.{CWritten}
 use Rattle.crossing.specs.declared.CWindow.{CWindow}
-use Rattle.crossing.specs.Numbers.{seenOf, writtenOf, windowOf, wordAt}
+use Rattle.crossing.specs.Numbers.{collectedOf, seenOf, writtenOf, windowOf, wordAt}
 use Rattle.crossing.specs.Laws as Law
 
-collect-simple : Law.Simple Ask.Collect
-collect-simple = (λ r e. let z : _≡_ {A = ℕ} 0 1 = cc in omega arith, λ r e. let z : _≡_ {A = ℕ} 0 1 = cc in omega arith)
-
 null-simple : Law.Simple (Ask.SetNull 0)
-null-simple = (λ r e. let z : _≡_ {A = ℕ} 0 1 = cc in omega arith, λ r e. let z : _≡_ {A = ℕ} 0 1 = cc in omega arith)
+null-simple = (
+  λ e. let z : _≡_ {A = ℕ} 0 1 = cc in omega arith,
+  λ r e. let z : _≡_ {A = ℕ} 0 1 = cc in omega arith,
+  λ r e. let z : _≡_ {A = ℕ} 0 1 = cc in omega arith,
+)
 
 read-simple : Law.Simple (Ask.RawRead 0 0)
-read-simple = (λ r e. let z : _≡_ {A = ℕ} 0 1 = cc in omega arith, λ r e. let z : _≡_ {A = ℕ} 0 1 = cc in omega arith)
+read-simple = (
+  λ e. let z : _≡_ {A = ℕ} 0 1 = cc in omega arith,
+  λ r e. let z : _≡_ {A = ℕ} 0 1 = cc in omega arith,
+  λ r e. let z : _≡_ {A = ℕ} 0 1 = cc in omega arith,
+)
 
 -- by a struct of its own, from which the call's answer is heard as from all its numbers
 by-struct : {Z : Type 0} (Y : Layout) (c : Call) (s s′ : State) (struct : Told → Z) (hears : Z → Answer)
@@ -57,11 +63,39 @@ seen-value t = go (eqb (t .holds) holdsCode)
     go true = refl
     go false = refl
 
+-- what is heard, with 0 for each number that the struct does not have
 abbrev seenTold : CSeen → ℕ → Told
-seenTold z v = record { refusal = z .refusal; holds = z .kind; integer = z .integer; value = v; length = 0 }
+seenTold z v = record {
+  refusal = z .refusal;
+  holds = z .kind;
+  integer = z .integer;
+  value = v;
+  length = 0;
+  objects = 0;
+  addresses = 0;
+}
 
 abbrev writtenTold : CWritten → Told
-writtenTold z = record { refusal = z .refusal; holds = 0; integer = pos 0; value = 0; length = z .length }
+writtenTold z = record {
+  refusal = z .refusal;
+  holds = 0;
+  integer = pos 0;
+  value = 0;
+  length = z .length;
+  objects = 0;
+  addresses = 0;
+}
+
+abbrev collectedTold : CCollected → Told
+collectedTold z = record {
+  refusal = z .refusal;
+  holds = 0;
+  integer = pos 0;
+  value = z .live;
+  length = 0;
+  objects = z .objects;
+  addresses = z .addresses;
+}
 
 window-apart : (p p′ : Place) → windowOf p ≡ windowOf p′ → p ≡ p′
 window-apart (Place.Object i n) (Place.Object j m) e =
@@ -86,7 +120,15 @@ pub answers-apart : (Y : Layout) → Law.AnswersApart Y
 answers-apart Y = record {
   inResult = λ c s s′ q q′ n e. by-two Y c s s′ n (ap (λ z. z .refusal) e) (ap (λ z. z .value) e);
   inAnswer = λ c s s′ n e. by-two Y c s s′ n (ap (λ z. z .refusal) e) (ap (λ z. z .value) e);
-  inCollected = λ s s′ q q′ e. by-two Y Ask.Collect s s′ collect-simple (ap (λ z. z .refusal) e) (ap (λ z. z .live) e);
+  inCollected = λ s s′ q q′ e.
+      by-struct Y Ask.Collect s s′ (λ t. collectedOf t q) (λ z. heard Ask.Collect (collectedTold z)) (λ t. refl)
+      (λ k. record {
+        refusal = e k .refusal;
+        live = e k .live;
+        objects = e k .objects;
+        addresses = e k .addresses;
+        «record» = q;
+      });
   inSeen = λ r s s′ e.
       by-struct Y (Ask.Inspect r) s s′ seenOf (λ z. heard (Ask.Inspect r) (seenTold z (seenValue z)))
       (λ t. ap (λ v. heard (Ask.Inspect r) (seenTold (seenOf t) v)) (seen-value t)) e;

@@ -33,12 +33,12 @@ pub record RecordLaw : Type 0 where
 abbrev pub WordLaw : Type 0
 WordLaw = (H : List ℕ) (p : Place) (f : ℕ) → wordAt H (windowOf p) f ≡ windowWord H p f
 
--- a call whose struct is not its own: neither inspect nor write
+-- a call whose struct is not its own: neither collect nor inspect nor write
 abbrev pub Simple : Call → Type 0
-Simple c = ((r : ℕ) → c ≡ Ask.Inspect r → ⊥) × ((r : ℕ) → c ≡ Ask.Write r → ⊥)
+Simple c = (c ≡ Ask.Collect → ⊥) × ((r : ℕ) → c ≡ Ask.Inspect r → ⊥) × ((r : ℕ) → c ≡ Ask.Write r → ⊥)
 
 -- answers can be told apart in what C gets: two answers of one call that are returned alike are equal, whatever the records.
--- Inspect and write have a struct of their own each; of the others refusal and value are enough.
+-- Collect, inspect and write have a struct of their own each; of the others refusal and value are enough.
 pub record AnswersApart (Y : Layout) : Type 0 where
   pub inResult : (c : Call) (s s′ : State) (q q′ : CRecord) → Simple c
       → resultOf (told (step Y c s .answer)) q ≡ resultOf (told (step Y c s′ .answer)) q′ → step Y c s .answer ≡ step Y c s′ .answer

@@ -28,9 +28,9 @@ use Rattle.crossing.specs.declared.CSeen.{CSeen}
 use Rattle.crossing.specs.declared.CWritten.{CWritten}
 use Rattle.crossing.specs.declared.CWindow.{CWindow}
 
--- 0.4.0, as major * 1,000,000 + minor * 1,000 + patch
+-- 0.5.0, as major * 1,000,000 + minor * 1,000 + patch
 abbrev pub version : ℕ
-version = 4_000
+version = 5_000
 
 -- ---- records: half A is 0, half B is 1, and no other number is a half
 
@@ -54,7 +54,8 @@ abbrev pub resultOf : Told → CRecord → CResult
 resultOf t c = record { refusal = t .refusal; value = t .value; «record» = c }
 
 abbrev pub collectedOf : Told → CRecord → CCollected
-collectedOf t c = record { refusal = t .refusal; live = t .value; «record» = c }
+collectedOf t c =
+    record { refusal = t .refusal; live = t .value; objects = t .objects; addresses = t .addresses; «record» = c }
 
 abbrev pub answerOf : Told → CAnswer
 answerOf t = record { refusal = t .refusal; value = t .value }

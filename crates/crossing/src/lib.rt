@@ -33,6 +33,8 @@ pub struct CResult {
 pub struct CCollected {
     pub refusal: u32,
     pub live: u32,
+    pub objects: u32,
+    pub addresses: u32,
     pub record: CRecord,
 }
 
@@ -163,6 +165,8 @@ pub fn collected_of(came: CRecord, done: Answered) -> CCollected
     CCollected {
         refusal: told.refusal,
         live: told.value,
+        objects: told.objects,
+        addresses: told.addresses,
         record,
     }
 }

@@ -1,19 +1,21 @@
--- A collection in the heap and in the graph that it stands for: the graph stays, and both count the same live words.
+-- A collection in the heap and in the graph that it stands for: the graph stays, and both count the same.
 use Prim.Native.Nat.{ℕ, zero, suc, _+_, _≤_, _<_}
 use native.Mathlib.Omega.{arith}
 use mathlib.Core.Path.{_≡_, refl, sym, ap, _∙_, subst}
 use mathlib.Core.Bool.{true}
-use mathlib.Core.List.{List, map}
+use mathlib.Core.List.{List, [], _∷_, map}
 use mathlib.Core.Option.{Option, none}
 use lib.ListN.{length, getD, replicate, length-map, length-replicate}
 use Rattle.model.specs.declared.Call.the-variants as Ask
 use Rattle.model.specs.Calls as Calls
 use Rattle.model.specs.Answers.{refuse}
-use Rattle.model.specs.Collection.{still, fieldCell, cells, wordLeads, cellLeads, orderAt, order, live, collected}
+use Rattle.model.specs.Collection.{still, fieldCell, addressesIn, cells, wordLeads, cellLeads, orderAt, order, live}
+use Rattle.model.specs.Collection.{addressesOf, addressesAmong, counts, collected}
 use Rattle.model.specs.Demand2 as D
 use Rattle.model.specs.Discovery.{packed}
 use Rattle.model.specs.Graph.{null, Value, plain, object, Object, traced, untraced, Graph, nth, rootValue, valueLeads}
-use Rattle.model.specs.Graph.{objectCells, graphCells, itself, totalWords, graphOrder, graphLive}
+use Rattle.model.specs.Graph.{objectCells, graphCells, itself, totalWords, graphOrder, objectsIn, objectsOf}
+use Rattle.model.specs.Graph.{objectsAmong, graphCounts}
 use Rattle.model.specs.GraphCalls.{graphStep}
 use Rattle.model.specs.Headers.{Layout, Adjacent}
 use Rattle.model.specs.Objects.{address, index, kind, fieldCount, size, fieldWords}
@@ -25,16 +27,16 @@ use Rattle.theory.proofs.DiscoveryAlike.{Along, Inside, packed-sizes, found-alo
 use Rattle.theory.proofs.Collected.{live-is}
 use Rattle.theory.proofs.CollectedSound.{new-sound}
 use Rattle.demands.proofs.Demand2.{collects}
-use Rattle.theory.proofs.Deciding.{tests-sound}
 use Rattle.theory.proofs.Discovery.{found-distinct}
 use Rattle.demands.proofs.GraphWords.{below, in-below, total-packed}
 use Rattle.theory.proofs.Lists.{getD-map, getD-same}
-use Rattle.theory.proofs.Members.{In, in-map, map-in-out, mem-in, in-mem}
+use Rattle.theory.proofs.Members.{In, in-tail, in-self, in-map, map-in-out, mem-in, in-mem}
 use Rattle.theory.proofs.Objects.{index-address, cells-length, field-at, fields-length}
 use Rattle.theory.proofs.Order.{header-tile, free-in, order-fits}
 use Rattle.theory.proofs.Packed.{packed-within}
 use Rattle.model.specs.Represents.{Encodes, Holds, Represents}
 use Rattle.demands.proofs.Represents.{parts, plain-no-address, Agrees, header-is-address}
+use Rattle.demands.proofs.Same.{same-counts}
 use Rattle.theory.proofs.Shape.{unshaped}
 use Rattle.theory.proofs.Soundness.{sound-whole}
 use Rattle.theory.proofs.WordSorts.{became-stays}
@@ -134,12 +136,61 @@ module _ (Y : Layout) (near : Adjacent Y) (s : State) (g : Graph) (m : Represent
       (graph-fits (totalWords (g .objects)))
 
   -- the live words are the graph's
-  pub live-same : live Y s ≡ graphLive g
-  unfolding graphLive
+  pub live-same : live Y s ≡ graphCounts g .live
+  unfolding graphCounts
   live-same =
       live-is Y s (parts m) ∙ words-along (halfWords (s .heap)) ∙ ap (λ o. length (packed (graphCells g) o)) orders-same
 
-  abbrev c : D.Collects Y s (collected Y s) (live Y s)
+  -- words that stand for values: as many are addresses as there are objects among the values
+  addresses-alike : (vs : List Value) (ws : List ℕ) → length ws ≡ length vs
+      → ((k : ℕ) → k < length vs → Encodes Y (m .kept) (m .headerOf) (getD vs k (plain null)) (getD ws k 0))
+      → addressesIn ws ≡ objectsIn vs
+  unfolding addressesIn objectsIn
+  addresses-alike [] [] n f = refl
+  addresses-alike [] (w ∷ ws) n f = absurd (omega arith)
+  addresses-alike (v ∷ vs) [] n f = absurd (omega arith)
+  addresses-alike (plain p ∷ vs) (w ∷ ws) n f =
+      let e = f zero (omega arith) in
+      let ih = addresses-alike vs ws (omega arith) (λ k l. f (suc k) (omega arith)) in
+      rw (e .1, plain-no-address p (e .0)) (omega arith)
+  addresses-alike (object x ∷ vs) (w ∷ ws) n f =
+      let e = f zero (omega arith) in
+      let ih = addresses-alike vs ws (omega arith) (λ k l. f (suc k) (omega arith)) in
+      rw (e .1, header-is-address Y s (parts m) (m .headerOf x) (m .head x (e .0)) near) (omega arith)
+
+  object-addresses : (b : Object) (i : ℕ) → i + size Y (s .heap) i ≤ length (s .heap)
+      → Holds Y (m .kept) (m .headerOf) (s .heap) b i
+      → addressesOf Y (s .heap) i ≡ objectsOf b
+  object-addresses (traced vs) i l h =
+      rw (h .0)
+      (addresses-alike vs (fieldWords Y (s .heap) i) (fields-length Y (s .heap) i l ∙ h .1)
+      (λ f n. rw (field-at Y (s .heap) i f (let y = h .1 in omega arith)) (h .2 f n)))
+  object-addresses (untraced ws) i l h = rw (h .0)
+
+  among-alike : (o : List ℕ) → Inside (m .kept) (m .headerOf) (m .apart) o
+      → addressesAmong Y (s .heap) (map (m .headerOf) o) ≡ objectsAmong g o
+  unfolding addressesAmong objectsAmong
+  among-alike [] n = refl
+  among-alike (x ∷ o) n =
+      let i = n x (in-self x o) in
+      let a = object-addresses (nth g x) (m .headerOf x) (within x i) (m .holds x i) in
+      let ih = among-alike o (λ z k. n z (in-tail z x o k)) in
+      omega arith
+
+  -- and so is all that a collection counts
+  counts-same : counts Y s ≡ graphCounts g
+  unfolding counts graphCounts
+  counts-same =
+      let o = order-along (halfWords (s .heap)) in
+      let r = addresses-alike (g .roots) (s .roots) (m .count) (m .roots) in
+      let f : addressesAmong Y (s .heap) (order Y s) ≡ objectsAmong g (graphOrder g (totalWords (g .objects))) =
+      ap (addressesAmong Y (s .heap)) (o .0) ∙ among-alike (graphOrder g (halfWords (s .heap))) (o .1)
+      ∙ ap (objectsAmong g) orders-same in
+      same-counts (counts Y s) (graphCounts g) live-same
+      (ap length (o .0) ∙ length-map (graphOrder g (halfWords (s .heap))) (m .headerOf) ∙ ap length orders-same)
+      (omega arith)
+
+  abbrev c : D.Collects Y s (collected Y s) (counts Y s)
   c = collects Y s (parts m)
 
   abbrev kept′ : List ℕ
@@ -155,11 +206,11 @@ module _ (Y : Layout) (near : Adjacent Y) (s : State) (g : Graph) (m : Represent
   kept-order x i = rw (order-along (halfWords (s .heap)) .0) (in-map (m .headerOf) x (graphOrder g (halfWords (s .heap))) i)
 
   kept-reach : (x : ℕ) → In x (graphOrder g (halfWords (s .heap))) → D.Reach Y s (m .headerOf x)
-  kept-reach x i = c .listed (m .headerOf x) (in-mem (m .headerOf x) (order Y s) (kept-order x i))
+  kept-reach x i = c .lists .listed (m .headerOf x) (in-mem (m .headerOf x) (order Y s) (kept-order x i))
 
   reach-kept : (x : ℕ) → In x (m .kept) → D.Reach Y s (m .headerOf x) → In x (graphOrder g (halfWords (s .heap)))
   reach-kept x i r =
-      let o : In (m .headerOf x) (order Y s) = mem-in (m .headerOf x) (order Y s) (c .reached (m .headerOf x) r) in
+      let o : In (m .headerOf x) (order Y s) = mem-in (m .headerOf x) (order Y s) (c .lists .reached (m .headerOf x) r) in
       let t = map-in-out (m .headerOf) (m .headerOf x) (graphOrder g (halfWords (s .heap)))
       (rw (order-along (halfWords (s .heap)) .0) at o) in
       subst (λ z. In z (graphOrder g (halfWords (s .heap)))) (m .apart (t .0) x (kept-known (t .0) (t .1)) i (t .2)) (t .1)
@@ -212,4 +263,4 @@ module _ (Y : Layout) (near : Adjacent Y) (s : State) (g : Graph) (m : Represent
 
   pub collect-agrees : Agrees Y (step Y Ask.Collect s) (graphStep Ask.Collect g)
   unfolding step Calls.collect graphStep refuse
-  collect-agrees = rw (unshaped s (parts m .shape), sound-whole Y s (parts m), live-same) (refl, collect-represents)
+  collect-agrees = rw (unshaped s (parts m .shape), sound-whole Y s (parts m), counts-same) (refl, collect-represents)

@@ -8,20 +8,20 @@ use Rattle.model.specs.declared.Answer.the-variants as Says
 use Rattle.model.specs.declared.Call.the-variants as Ask
 use Rattle.model.specs.Calls as Calls
 use Rattle.model.specs.Answers.{says, refuse}
-use Rattle.model.specs.Collection.{still, fieldCell, cells, wordLeads, cellLeads, orderAt, order, live, settle}
-use Rattle.model.specs.Collection.{collected}
+use Rattle.model.specs.Collection.{still, fieldCell, addressesIn, cells, wordLeads, cellLeads, orderAt, order, live}
+use Rattle.model.specs.Collection.{addressesOf, addressesAmong, counts, settle, collected}
 use Rattle.model.specs.Demand2 as D
 use Rattle.model.specs.Discovery.{packed}
 use Rattle.model.specs.Headers.{Layout}
-use Rattle.model.specs.Sessions.{step, machine, answers}
+use Rattle.model.specs.Objects.{size}
+use Rattle.model.specs.Sessions.{step, machine}
 use Rattle.model.specs.Words.{State, at, halfWords, otherFirst}
-use Rattle.theory.proofs.Breadth.{breadth}
 use Rattle.theory.proofs.Collected.{new-text, live-is, new-length, new-first, new-half, new-free, order-tile, new-header}
 use Rattle.theory.proofs.Collected.{new-field, new-root, new-roots}
 use Rattle.theory.proofs.CollectedSound.{new-tiled, becomes, reach-order, order-reach, traced-field, new-sound}
 use Rattle.theory.proofs.Copies.{wordsBefore-nth}
+use Rattle.theory.proofs.Counting.{total, lists-total, length-total, among-total}
 use Rattle.theory.proofs.Deciding.{tests-sound, sound-tests}
-use Rattle.theory.proofs.Discovery.{root}
 use Rattle.demands.proofs.Meetings.{met, only}
 use Rattle.theory.proofs.Members.{In, in-tail, in-self, in-take, distinct-once, mem-in, in-mem}
 use Rattle.theory.proofs.Objects.{cells-length}
@@ -29,6 +29,16 @@ use Rattle.theory.proofs.Order.{orderAt-distinct, order-fits, reach-reached, or
 use Rattle.theory.proofs.Packed.{wordsBefore-apart}
 use Rattle.theory.proofs.Shape.{unshaped}
 use Rattle.theory.proofs.Soundness.{SoundTests, sound-whole, sound-zero}
+
+-- what is a sum over a list is the same of every list of exactly the same numbers
+pub sums-same : {P : ℕ → Type 0} (F : List ℕ → ℕ) (f : ℕ → ℕ) → ((o : List ℕ) → F o ≡ total f o)
+    → (o o′ : List ℕ) → D.Lists P o → D.Lists P o′ → F o ≡ F o′
+sums-same F f e o o′ l l′ = e o ∙ lists-total f o o′ l l′ ∙ sym (e o′)
+
+sizes-total : (Y : Layout) (H o : List ℕ) → D.sizes Y H o ≡ total (size Y H) o
+unfolding total
+sizes-total Y H [] = refl
+sizes-total Y H (i ∷ o) = ap (λ (n : ℕ). size Y H i + n) (sizes-total Y H o)
 
 module _ (Y : Layout) (s : State) (h : SoundTests Y s) where
   abbrev s′ : State
@@ -43,6 +53,14 @@ module _ (Y : Layout) (s : State) (h : SoundTests Y s) where
       let c = cells-length Y (s .heap) i (order-tile Y s h i (f i (in-self i o)) .0) in
       length-append (cells Y (s .heap) i) (packed (cells Y (s .heap)) o) ∙ omega arith
 
+  -- the order lists exactly the reachable objects, each once; it is the first meetings, and alone is
+  order-lists : D.Lists (D.Reach Y s) (order Y s)
+  order-lists = record {
+    once = distinct-once (order Y s) (orderAt-distinct Y s h (halfWords (s .heap)));
+    listed = λ i m. order-reach Y s h i (mem-in i (order Y s) m);
+    reached = λ i r. in-mem i (order Y s) (reach-order Y s h i r);
+  }
+
   order-met : D.FirstMeetings Y s (order Y s)
   unfolding orderAt
   order-met =
@@ -56,11 +74,10 @@ module _ (Y : Layout) (s : State) (h : SoundTests Y s) where
       (order-fits Y s h) o e
       (λ i m. reach-reached Y s h i (r i (in-mem i o m)))
 
-  pub collects : D.Collects Y s s′ (live Y s)
+  pub collects : D.Collects Y s s′ (counts Y s)
+  unfolding counts
   collects = record {
-    listed = λ i m. order-reach Y s h i (mem-in i (order Y s) m);
-    reached = λ i r. in-mem i (order Y s) (reach-order Y s h i r);
-    once = distinct-once (order Y s) (orderAt-distinct Y s h (halfWords (s .heap)));
+    lists = order-lists;
     met = order-met;
     only = order-only;
     breadth = order-breadth Y s h;
@@ -84,8 +101,14 @@ module _ (Y : Layout) (s : State) (h : SoundTests Y s) where
     sameLength = new-length Y s h;
     otherHalf = new-half Y s h;
     cleared = sound-zero Y s′ (new-sound Y s h);
-    counts = live-is Y s h ∙ sizes-packed (order Y s) (λ x m. m);
     sameText = new-text Y s;
+    live = λ o l.
+        live-is Y s h ∙ sizes-packed (order Y s) (λ x m. m)
+        ∙ sums-same (D.sizes Y (s .heap)) (size Y (s .heap)) (sizes-total Y (s .heap)) (order Y s) o order-lists l;
+    objects = λ o l. sums-same length (λ i. 1) length-total (order Y s) o order-lists l;
+    addresses = λ o l.
+        ap (λ (n : ℕ). addressesIn (s .roots) + n)
+        (sums-same (addressesAmong Y (s .heap)) (addressesOf Y (s .heap)) (among-total Y (s .heap)) (order Y s) o order-lists l);
     used = new-free Y s h ∙ ap (λ x. x + live Y s) (sym (new-first Y s h));
     again = tests-sound Y s′ (new-sound Y s h);
   }
@@ -94,9 +117,9 @@ pub demand2 : (Y : Layout) → D.Demand2 Y (machine Y)
 unfolding step Calls.collect refuse
 demand2 Y s ok =
     let h = sound-tests Y s ok in
-    let o : step Y Ask.Collect s ≡ says (Says.Live (live Y s)) (collected Y s) = rw (unshaped s (h .shape), sound-whole Y s h) in
+    let o : step Y Ask.Collect s ≡ says (Says.Live (counts Y s)) (collected Y s) = rw (unshaped s (h .shape), sound-whole Y s h) in
     record {
-      L = live Y s;
+      counts = counts Y s;
       answers = ap (λ z. z .answer) o;
-      leaves = subst (λ z. D.Collects Y s (z .left) (live Y s)) (sym o) (collects Y s h);
+      leaves = subst (λ z. D.Collects Y s (z .left) (counts Y s)) (sym o) (collects Y s h);
     }

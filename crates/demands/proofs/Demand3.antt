@@ -7,7 +7,7 @@ use mathlib.Core.List.{List, []}
 use lib.ListN.{length}
 use Rattle.model.specs.declared.Refusal.the-variants as Why
 use Rattle.model.specs.Demand3 as D3
-use Rattle.model.specs.Graph.{Graph, emptyGraph, totalWords, graphOrder, graphLive}
+use Rattle.model.specs.Graph.{Graph, emptyGraph, totalWords, graphOrder, graphCounts}
 use Rattle.model.specs.GraphCalls.{graphWithText, graphAsked, graphAfter}
 use Rattle.model.specs.Headers.{Layout, WritesBoth, Adjacent, tuple}
 use Rattle.model.specs.Represents.{Represents}
@@ -17,7 +17,7 @@ use Rattle.demands.proofs.Room.{Full}
 use Rattle.theory.proofs.Deciding.{sound-tests, tests-sound}
 use Rattle.demands.proofs.GraphAnswers.{graph-room}
 use Rattle.demands.proofs.GraphClosed.{session-known}
-use Rattle.demands.proofs.GraphReach.{lists-whole, live-listed}
+use Rattle.demands.proofs.GraphReach.{lists-whole, live-listed, objects-listed, addresses-listed}
 use Rattle.theory.proofs.Headers.{tuple-lawful, tuple-adjacent}
 use Rattle.demands.proofs.KeepSound.{stays-sound}
 use Rattle.theory.proofs.PlainAnswers.{not-room, done-plainly}
@@ -26,17 +26,19 @@ use Rattle.demands.proofs.Session.{Stands, lends, step-exceeds, asked-g
 use Rattle.demands.proofs.Standing.{sound-represents}
 use Rattle.demands.proofs.Start.{begun-represents, begun-half}
 
--- ---- the live words of a graph whose reachable objects are all its own
+-- ---- what a collection counts of a graph whose reachable objects are all its own
 
-live-words : (g : Graph) → ((i : ℕ) → D3.Reachable g i → i < length (g .objects)) → D3.LiveWords g
-live-words g known = record {
+live-counts : (g : Graph) → ((i : ℕ) → D3.Reachable g i → i < length (g .objects)) → D3.LiveCounts g
+live-counts g known = record {
   listable = (graphOrder g (totalWords (g .objects)), lists-whole g known);
   live = live-listed g known;
+  objects = objects-listed g known;
+  addresses = addresses-listed g known;
 }
 
 -- bytes that are lent are no words of it
-text-live : (t : List ℕ) (g : Graph) → graphLive (graphWithText t g) ≡ graphLive g
-unfolding graphLive graphOrder
+text-live : (t : List ℕ) (g : Graph) → graphCounts (graphWithText t g) .live ≡ graphCounts g .live
+unfolding graphCounts graphOrder
 text-live t g = refl
 
 -- ---- "no room"
@@ -98,7 +100,7 @@ module _ (Y : Layout) (law : WritesBoth Y) (near : Adjacent Y) where
   demand3-of = record {
     sameAnswers = λ small large g m m⁺ l cs k. runs Y law near cs k small large g (stands small g m) (stands large g m⁺) l;
     room = room;
-    live = λ s g m. live-words g (represents-known Y s g m);
+    live = λ s g m. live-counts g (represents-known Y s g m);
     neverShape = never-shape;
     neverDamaged = never-damaged;
     keepsSound = λ s c h. tests-sound Y (step Y c s .left) (stays-sound Y s (sound-tests Y s h) law c);
@@ -113,7 +115,7 @@ module _ (Y : Layout) (law : WritesBoth Y) (near : Adjacent Y) where
     freshRoom = λ e.
         subst (λ n. D3.RoomExactly (machine Y) n (D3.begun (machine Y) e) (emptyGraph (e .nullRoots))) (begun-half Y e)
         (room (D3.begun (machine Y) e) (emptyGraph (e .nullRoots)) (begun-represents Y e));
-    freshLive = λ cs n. live-words (graphAfter cs (emptyGraph n)) (session-known cs n);
+    freshLive = λ cs n. live-counts (graphAfter cs (emptyGraph n)) (session-known cs n);
     staysSound = λ e cs. after-represents Y law near cs (D3.begun (machine Y) e) (emptyGraph (e .nullRoots)) (stands _ _ (begun-represents Y e)) .0 .ok;
     freshNeverShape = λ e. never-shape (D3.begun (machine Y) e) (emptyGraph (e .nullRoots)) (begun-represents Y e);
     freshNeverDamaged = λ e. never-damaged (D3.begun (machine Y) e) (emptyGraph (e .nullRoots)) (begun-represents Y e);

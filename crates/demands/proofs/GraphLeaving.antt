@@ -16,7 +16,7 @@ use Rattle.model.specs.declared.Answer.the-variants as Says
 use Rattle.model.specs.declared.Call.the-variants as Ask
 use Rattle.model.specs.Answers.{Outcome, says, refuse}
 use Rattle.model.specs.Graph.{Plain, integer, null, code, Value, plain, object, Object, traced, untraced, Graph, nth}
-use Rattle.model.specs.Graph.{rootValue, graphLive}
+use Rattle.model.specs.Graph.{rootValue, graphCounts}
 use Rattle.model.specs.GraphCalls.{graphWithRoot, withObject, grown, sameValue, byKind, onObject, plainAnswer}
 use Rattle.model.specs.GraphCalls.{graphWithText, inspected, plainForm, objectForm, valueForm, graphStep}
 use Rattle.model.specs.Texts.{textless, Piece, Spelled, whole, broken, maxDepth, valuePieces, spelled, over, writes}
@@ -120,7 +120,7 @@ module _ (g : Graph) (P : Outcome Graph → Type 0) (h : GraphKept g P) where
 
   step-holds : (c : Call) → Holds P (graphStep c g)
   unfolding graphStep
-  step-holds Ask.Collect = after _ Why.Root _ refl (holds (h .answered _ (plainly (Says.Live (graphLive g)) refl)))
+  step-holds Ask.Collect = after _ Why.Root _ refl (holds (h .answered _ (plainly (Says.Live (graphCounts g)) refl)))
   step-holds Ask.Check = after _ Why.Root _ refl (holds (h .answered _ (plainly Says.Sound refl)))
   step-holds (Ask.Allocate k n r) = after _ Why.Root _ refl (after _ Why.Count _ refl (holds (h .allocated k n r)))
   step-holds (Ask.SetInteger r v) = after _ Why.Root _ refl (after _ Why.Range _ refl (holds (h .set-plain r (integer v))))

@@ -1,18 +1,22 @@
--- The graph's live words are the words of its reachable objects, whatever list names each once.
-use Prim.Native.Nat.{ℕ, zero, suc, _≤_, _<_}
+-- What a collection counts of the graph is what its reachable objects have, whatever list names each once.
+use Prim.Native.Nat.{ℕ, zero, suc, _+_, _≤_, _<_}
 use native.Mathlib.Omega.{arith}
 use mathlib.Core.Path.{_≡_, refl, sym, ap, _∙_}
 use mathlib.Core.List.{List, [], _∷_, map}
 use mathlib.Core.Option.{Option, none, some}
 use lib.ListN.{length, getD, replicate, length-append, length-map, length-replicate, List·getD-map}
+use Rattle.model.specs.Demand2 as D
 use Rattle.model.specs.Demand3 as D3
 use Rattle.model.specs.Discovery.{packed}
 use Rattle.model.specs.Graph.{null, Value, plain, object, Object, traced, untraced, Graph, nth, rootValue, valueLeads}
-use Rattle.model.specs.Graph.{objectCells, graphCells, itself, totalWords, graphOrder, graphLive}
+use Rattle.model.specs.Graph.{objectCells, graphCells, itself, totalWords, graphOrder, objectsIn, objectsOf}
+use Rattle.model.specs.Graph.{objectsAmong, graphCounts}
+use Rattle.theory.proofs.Counting.{total, length-total}
+use Rattle.demands.proofs.Demand2.{sums-same}
 use Rattle.theory.proofs.Discovery.{Reach, root, cell, found-distinct, found-reach, reach-found}
 use Rattle.demands.proofs.GraphWords.{below, in-below, total-packed}
 use Rattle.theory.proofs.Lists.{getD-same}
-use Rattle.theory.proofs.Members.{In, Distinct, distinct-once, once-distinct, mem-in, in-mem}
+use Rattle.theory.proofs.Members.{In, Distinct, distinct-once, mem-in, in-mem}
 use Rattle.theory.proofs.Packed.{packed-within}
 use Rattle.theory.proofs.Values.{some-same}
 use Rattle.theory.proofs.Visits.{no-some}
@@ -61,6 +65,17 @@ module _ (g : Graph) where
       let c = words-sizes o in
       omega arith
 
+  -- what is counted of a list of objects is a sum over it
+  sizes-total : (o : List ℕ) → D3.graphSizes g o ≡ total (λ i. D3.graphSize (nth g i)) o
+  unfolding total
+  sizes-total [] = refl
+  sizes-total (i ∷ o) = ap (λ (n : ℕ). D3.graphSize (nth g i) + n) (sizes-total o)
+
+  objects-total : (o : List ℕ) → objectsAmong g o ≡ total (λ i. objectsOf (nth g i)) o
+  unfolding objectsAmong total
+  objects-total [] = refl
+  objects-total (i ∷ o) = ap (λ (n : ℕ). objectsOf (nth g i) + n) (objects-total o)
+
   -- where what is reachable is one of the graph's objects
   module _ (known : (i : ℕ) → D3.Reachable g i → i < length (g .objects)) where
     abbrev whole : List ℕ
@@ -88,17 +103,27 @@ module _ (g : Graph) where
         reach-found (graphCells g) none itself (map valueLeads (g .roots)) refl (totalWords (g .objects)) whole-fits i
         (reach-reached i r)
 
-    pub lists-whole : D3.Lists g whole
+    pub lists-whole : D.Lists (D3.Reachable g) whole
     lists-whole = record {
       once = distinct-once whole whole-distinct;
       listed = λ i m. found-listed i (mem-in i whole m);
       reached = λ i r. in-mem i whole (listed-found i r);
     }
 
-    pub live-listed : (o : List ℕ) → D3.Lists g o → graphLive g ≡ D3.graphSizes g o
-    unfolding graphLive
+    -- so it is the same of every list of exactly the reachable objects
+    pub live-listed : (o : List ℕ) → D.Lists (D3.Reachable g) o → graphCounts g .live ≡ D3.graphSizes g o
+    unfolding graphCounts
     live-listed o l =
-        let a = packed-within (graphCells g) whole o whole-distinct (λ i m. mem-in i o (l .reached i (found-listed i m))) in
-        let b = packed-within (graphCells g) o whole (once-distinct o (l .once)) (λ i m. listed-found i (l .listed i (in-mem i o m))) in
-        let c = words-sizes o in
-        omega arith
+        words-sizes whole
+        ∙ sums-same (D3.graphSizes g) (λ i. D3.graphSize (nth g i)) sizes-total whole o lists-whole l
+
+    pub objects-listed : (o : List ℕ) → D.Lists (D3.Reachable g) o → graphCounts g .objects ≡ length o
+    unfolding graphCounts
+    objects-listed o l = sums-same length (λ i. 1) length-total whole o lists-whole l
+
+    pub addresses-listed : (o : List ℕ) → D.Lists (D3.Reachable g) o
+        → graphCounts g .addresses ≡ objectsIn (g .roots) + objectsAmong g o
+    unfolding graphCounts
+    addresses-listed o l =
+        ap (λ (n : ℕ). objectsIn (g .roots) + n)
+        (sums-same (objectsAmong g) (λ i. objectsOf (nth g i)) objects-total whole o lists-whole l)

@@ -21,7 +21,7 @@ use Rattle.model.specs.Answers.{Outcome, says, refuse, number}
 use Rattle.model.specs.Calls.{onField}
 use Rattle.model.specs.Admission.{noRoots, onRoots}
 use Rattle.model.specs.Changes.{rootWord, spare, fits}
-use Rattle.model.specs.Collection.{live, collected}
+use Rattle.model.specs.Collection.{counts, collected}
 use Rattle.model.specs.Conditions.{Decides, BadShape}
 use Rattle.model.specs.Demand1 as D1
 use Rattle.model.specs.Headers.{Layout}
@@ -172,7 +172,7 @@ module _ (Y : Layout) (s : State) where
       Calls.rawRead Calls.rawWrite Calls.same Calls.inspect Calls.write Calls.read
   step-judged Ask.Collect =
       judged-roots [] _ _
-      (judged-refuse _ Why.Damaged _ _ _ refl (unsound-decides Y s) (λ e. judged-says _ _ (plainly (Says.Live (live Y s)) refl)))
+      (judged-refuse _ Why.Damaged _ _ _ refl (unsound-decides Y s) (λ e. judged-says _ _ (plainly (Says.Live (counts Y s)) refl)))
   step-judged Ask.Check =
       judged-roots [] _ _ (judged-says _ s (either-plainly (sound Y s) Says.Sound Says.Unsound refl refl))
   step-judged (Ask.Allocate k n r) =

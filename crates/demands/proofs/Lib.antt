@@ -55,6 +55,7 @@ pub mod Standing
 pub mod Demand3
 -- wrong machines
 pub mod Rivals
+pub mod RivalsOfCounts
 pub mod RivalsOfEffects
 pub mod RivalsOfLooks
 pub mod RivalsOfCode

@@ -1,4 +1,4 @@
--- Demand 2 leaves no choice: what a collection may leave of a state is one state, and L one number.
+-- Demand 2 leaves no choice: what a collection may leave of a state is one state, and what it answers the same three numbers.
 use Prim.Native.Nat.{ℕ, zero, suc, _+_, _-_, _≤_, _<_}
 use native.Mathlib.Omega.{arith}
 use mathlib.Core.Path.{_≡_, sym, ap, _∙_, subst}
@@ -6,6 +6,7 @@ use mathlib.Core.Logic.{inl, inr, ⊎-elim}
 use mathlib.Core.Bool.{true, false}
 use lib.ListN.{length}
 use lib.Seq.{ext-getD}
+use Rattle.model.specs.declared.Counts.{Counts}
 use Rattle.model.specs.declared.Half.{Half}
 use Rattle.model.specs.Collection.{order}
 use Rattle.model.specs.Demand2 as D
@@ -16,7 +17,7 @@ use Rattle.model.specs.Words.{State, at, halfWordsOf, halfWords, firstOf, first
 use Rattle.theory.proofs.Deciding.{sound-tests}
 use Rattle.theory.proofs.Members.{In, map-in-out, in-mem}
 use Rattle.theory.proofs.Objects.{kind-traced, kind-untraced}
-use Rattle.demands.proofs.Same.{same-state, same-record}
+use Rattle.demands.proofs.Same.{same-record, same-counts, same-state}
 use Rattle.theory.proofs.Tests.{by-test, decide}
 use Rattle.theory.proofs.Tiling.{headers-cover}
 use Rattle.theory.proofs.WordSorts.{became-stays}
@@ -29,9 +30,16 @@ module _ (Y : Layout) (s : State) where
       (λ (p : isAddress w ≡ false). became-stays Y s w a x p ∙ sym (became-stays Y s w b y p))
       (by-test (isAddress w))
 
-  module _ (t t′ : State) (L L′ : ℕ) (c : D.Collects Y s t L) (c′ : D.Collects Y s t′ L′) where
-    same-live : L ≡ L′
-    same-live = c .counts ∙ sym (c′ .counts)
+  module _ (t t′ : State) (n n′ : Counts) (c : D.Collects Y s t n) (c′ : D.Collects Y s t′ n′) where
+    -- each number is said of every list of the reachable objects, and so of the order
+    same-live : n .live ≡ n′ .live
+    same-live = c .live (order Y s) (c .lists) ∙ sym (c′ .live (order Y s) (c .lists))
+
+    one-counts : n ≡ n′
+    one-counts =
+        same-counts n n′ same-live
+        (c .objects (order Y s) (c .lists) ∙ sym (c′ .objects (order Y s) (c .lists)))
+        (c .addresses (order Y s) (c .lists) ∙ sym (c′ .addresses (order Y s) (c .lists)))
 
     same-half : t .«record» .half ≡ t′ .«record» .half
     same-half = c .otherHalf ∙ sym (c′ .otherHalf)
@@ -76,7 +84,7 @@ module _ (Y : Layout) (s : State) where
         let k = v .0 in
         let q = map-in-out (D.copyIndex Y s) k (order Y s) (subst (In k) (c .copies) (v .1)) in
         let x = q .0 in
-        let r : D.Reach Y s x = c .listed x (in-mem x (order Y s) (q .1)) in
+        let r : D.Reach Y s x = c .lists .listed x (in-mem x (order Y s) (q .1)) in
         let e : D.copyIndex Y s x ≡ k = q .2 in
         let z : size Y (t .heap) k ≡ size Y (s .heap) x =
         ap (λ j. size Y (t .heap) j) (sym e) ∙ ap (λ w. Y .countOf w + 1) (c .header x r) in
@@ -107,4 +115,4 @@ module _ (Y : Layout) (s : State) where
         (c .sameText ∙ sym (c′ .sameText))
 
 pub no-choice : (Y : Layout) → D.NoChoice Y
-no-choice Y s t t′ L L′ c c′ = (one-state Y s t t′ L L′ c c′, same-live Y s t t′ L L′ c c′)
+no-choice Y s t t′ n n′ c c′ = (one-state Y s t t′ n n′ c c′, one-counts Y s t t′ n n′ c c′)

@@ -239,7 +239,7 @@ module _ (Y : Layout) where
         (λ (e : sound Y s ≡ false). absurd (p .1 .1 .0 (sound-decides Y s .fails e))) (by-test (sound Y s)) in
         let a = m .two s ok in
         let b = n .two s ok in
-        let z = no-choice Y s _ _ (a .L) (b .L) (a .leaves) (b .leaves) in
+        let z = no-choice Y s _ _ (a .counts) (b .counts) (a .leaves) (b .leaves) in
         same-outcome (M .step Ask.Collect s) (N .step Ask.Collect s)
         (a .answers ∙ ap Says.Live (z .1) ∙ sym (b .answers)) (z .0)
 

@@ -1,17 +1,18 @@
 -- Wrong machines, and the demand that each of them breaks: no demand holds of everything.
 use Prim.Native.Nat.{ℕ, zero, suc, _+_, _-_, _≤_, _<_}
 use native.Mathlib.Omega.{arith}
-use mathlib.Core.Path.{_≡_, refl, sym, ap}
+use mathlib.Core.Path.{_≡_, refl, ap, _∙_}
 use mathlib.Core.Logic.{inl, inr, ⊎-elim}
-use mathlib.Core.Bool.{Bool, false, cond}
+use mathlib.Core.Bool.{Bool, true, false, not, cond}
 use mathlib.Core.List.{List, [], _∷_, _++_, map, List·Memᴰ, List·Memᴰ·head, List·Memᴰ·not-nil, List·Memᴰ·cases-cons}
 use mathlib.Core.Option.{Option, none, some}
 use lib.Dec.{ltb, eqb}
-use lib.ListN.{getD, replicate}
+use lib.ListN.{length, getD, replicate}
 use Rattle.model.specs.declared.Half.the-variants.{A}
 use Rattle.model.specs.declared.Kind.the-variants.{Traced}
 use Rattle.model.specs.declared.Call.{Call}
 use Rattle.model.specs.declared.Refusal.the-variants as Why
+use Rattle.model.specs.declared.Counts.{Counts}
 use Rattle.model.specs.declared.Answer.{Answer}
 use Rattle.model.specs.declared.Answer.the-variants as Says
 use Rattle.model.specs.declared.Call.the-variants as Ask
@@ -20,25 +21,26 @@ use Rattle.model.specs.Calls as Calls
 use Rattle.model.specs.Answers.{Outcome, says, refuse, told}
 use Rattle.model.specs.Calls.{fresh, freshRecord}
 use Rattle.model.specs.Changes.{fits, placed}
-use Rattle.model.specs.Collection.{cells, wordLeads, cellLeads, orderAt, live, rename, copied}
+use Rattle.model.specs.Collection.{addressesIn, cells, wordLeads, cellLeads, orderAt, order, live, addressesAmong, counts}
+use Rattle.model.specs.Collection.{rename, copied}
 use Rattle.model.specs.Conditions.{Sound}
 use Rattle.model.specs.Demand1 as D1
 use Rattle.model.specs.Demand2 as D
 use Rattle.model.specs.Demand3 as D3
 use Rattle.model.specs.Discovery.{mem, visit, visits, packed, wordsBefore, found}
-use Rattle.model.specs.Graph.{totalWords, graphOrder, graphLive}
+use Rattle.model.specs.Graph.{totalWords, graphOrder, graphCounts}
 use Rattle.model.specs.GraphCalls.{inspected, graphStep, graphReplies, graphAfter}
 use Rattle.model.specs.Headers.{tuple}
 use Rattle.model.specs.Refusals as Row
 use Rattle.model.specs.Sessions.{step, Machine, Reply, alone, replies, after}
 use Rattle.model.specs.Shape.{badShapeOf, badShape}
-use Rattle.model.specs.Soundness.{tiles, headersFrom, isValue, fieldsAreValues, sound}
+use Rattle.model.specs.Soundness.{all, tiles, headersFrom, headers, isValue, fieldsAreValues, sound}
 use Rattle.model.specs.Words.{State, stateOf, halfWords, firstOf, firstWord, free}
 use Rattle.model.specs.Worked as Worked
 use Rattle.demands.proofs.Conditions.{roots-decide}
 use Rattle.theory.proofs.Deciding.{shape-decides, sound-decides}
-use Rattle.theory.proofs.PlainAnswers.{done-plainly}
 use Rattle.theory.proofs.Shape.{Shaped, unshaped}
+use Rattle.theory.proofs.Tests.{never, and-both}
 use Rattle.theory.proofs.Values.{some-same}
 
 -- a machine that changes what the library's comes to
@@ -134,7 +136,7 @@ sixteen-bits-breaks-1 heap v d =
 abbrev pub p5 : State
 p5 = Worked.state A 7 Worked.p5 (24 ∷ 12 ∷ [])
 
-p5-sound : Sound tuple p5
+pub p5-sound : Sound tuple p5
 unfolding tuple sound badShapeOf tiles headersFrom isValue fieldsAreValues mem
 p5-sound = sound-decides tuple p5 .holds refl
 
@@ -145,19 +147,20 @@ four-sound : Sound tuple four
 unfolding tuple sound badShapeOf tiles headersFrom isValue fieldsAreValues mem
 four-sound = sound-decides tuple four .holds refl
 
--- answers a made-up L, one too many, to every collection
-abbrev pub madeUp : Machine
-madeUp = changed (λ c s o. says (Says.Live (live tuple s + 1)) (o .left))
+-- answers other numbers to every collection, made of the state and of the right ones
+abbrev pub miscounts : (State → Counts → Counts) → Machine
+miscounts f = changed (λ c s o. cond (is collects c) (says (Says.Live (f s (counts tuple s))) (o .left)) o)
 
-live-same-number : (n m : ℕ) → Says.Live n ≡ Says.Live m → n ≡ m
-live-same-number n m e = cc
+-- a made-up L, one too many
+abbrev pub madeUp : Machine
+madeUp = miscounts (λ s n. record { live = n .live + 1; objects = n .objects; addresses = n .addresses })
 
 pub made-up-breaks-2 : D.Demand2 tuple madeUp → ⊥
-unfolding tuple live orderAt found visits visit mem packed wordLeads
+unfolding tuple counts live orderAt found visits visit mem packed wordLeads
 made-up-breaks-2 d =
     let z = d p5 p5-sound in
-    let a : 5 ≡ z .L = live-same-number 5 (z .L) (z .answers) in
-    let b : z .L ≡ 4 = z .leaves .counts in
+    let a : 5 ≡ z .counts .live = ap (λ (x : Answer). told x .value) (z .answers) in
+    let b : z .counts .live ≡ 4 = z .leaves .live (order tuple p5) (z .leaves .lists) in
     omega arith
 
 -- moves nothing
@@ -211,6 +214,14 @@ pub keeps-words-breaks-3 : D3.Demand3 tuple keepsWords → ⊥
 unfolding replies step Calls.collect refuse sound badShapeOf
 keeps-words-breaks-3 d = d .freshNeverDamaged (threeWords 7 0 (omega arith)) (alone Ask.Collect ∷ []) (List·Memᴰ·head refl)
 
+-- answers each of which is something else than "no room"
+pub no-room : (l : List Answer) → all (λ a. not (D3.isNoRoom a)) l ≡ true → List·Memᴰ D3.noRoom l → ⊥
+no-room [] e m = List·Memᴰ·not-nil m
+no-room (a ∷ l) e m =
+    let t = and-both (not (D3.isNoRoom a)) (all (λ x. not (D3.isNoRoom x)) l) e in
+    ⊎-elim (λ (q : D3.noRoom ≡ a). never (ap (λ (x : Answer). not (D3.isNoRoom x)) q ∙ t .0) refl) (λ x. no-room l (t .1) x)
+    (List·Memᴰ·cases-cons m)
+
 -- answers "done" to everything
 abbrev pub constant : Machine
 constant = changed (λ c s o. says Says.Done s)
@@ -222,20 +233,24 @@ pub constant-breaks-3 : D3.Demand3 tuple constant → ⊥
 unfolding replies graphReplies graphStep refuse inspected
 constant-breaks-3 d =
     done-null (ap (λ (l : List Reply). getD l 0 (record { answer = Says.Done; text = [] }) .answer)
-    (d .freshAnswers (threeWords 0 1 (omega arith)) (threeWords 0 1 (omega arith)) refl (omega arith) (alone (Ask.Inspect 0) ∷ []) 1 unrefused .1))
-  where
-    unrefused : List·Memᴰ D3.noRoom (Says.Done ∷ []) → ⊥
-    unrefused m =
-        ⊎-elim (λ (e : D3.noRoom ≡ Says.Done). done-plainly Why.Room (sym e)) (λ x. List·Memᴰ·not-nil x)
-        (List·Memᴰ·cases-cons m)
+    (d .freshAnswers (threeWords 0 1 (omega arith)) (threeWords 0 1 (omega arith)) refl (omega arith) (alone (Ask.Inspect 0) ∷ []) 1
+    (no-room (Says.Done ∷ []) refl) .1))
 
--- collects once, from half A, and pretends later: in half B it says that all words used are live, and an
--- allocation that does not fit is "no room"
+-- what a collection would count if every object were reachable
+abbrev pub allUsed : State → Counts
+allUsed s = record {
+  live = free s - firstWord s;
+  objects = length (headers tuple s);
+  addresses = addressesIn (s .roots) + addressesAmong tuple (s .heap) (headers tuple s);
+}
+
+-- collects once, from half A, and pretends later: in half B it says that every object is live, and an allocation that does
+-- not fit is "no room"
 abbrev inB : State → Bool
 inB s = eqb (firstOf 1 (s .«record» .half)) 2
 
 unfoldable pub pretends : Call → State → Outcome State → Outcome State
-pretends Ask.Collect s o = says (Says.Live (free s - firstWord s)) s
+pretends Ask.Collect s o = says (Says.Live (allUsed s)) s
 pretends (Ask.Allocate k n r) s o = cond (fits (n + 1) s) o (says (Says.Refused Why.Room) s)
 pretends Ask.Check s o = o
 pretends (Ask.SetInteger r v) s o = o
@@ -255,7 +270,7 @@ abbrev pub onlyOnce : Machine
 onlyOnce = changed (λ c s o. cond (inB s) (pretends c s o) o)
 
 pub only-once-breaks-3 : D3.Demand3 tuple onlyOnce → ⊥
-unfolding pretends step fresh replies after graphStep graphAfter D3.carriedOut graphLive graphOrder totalWords refuse inspected
+unfolding pretends step fresh replies after graphStep graphAfter D3.carriedOut graphCounts graphOrder totalWords refuse inspected
     Calls.collect Calls.allocate Calls.setNull tuple sound badShapeOf tiles headersFrom isValue fieldsAreValues mem visit visits packed
     wordsBefore found wordLeads orderAt live rename copied placed
 only-once-breaks-3 d =

@@ -1,10 +1,10 @@
 -- Wrong machines that have to do with texts, and the sentence that each of them breaks.
 use Prim.Native.Nat.{ℕ, _≤_, _<_}
 use native.Mathlib.Omega.{arith}
-use mathlib.Core.Path.{_≡_, refl, sym, ap}
+use mathlib.Core.Path.{_≡_, refl, ap}
 use mathlib.Core.Logic.{inl, inr, ⊎-elim}
 use mathlib.Core.Bool.{cond, _&&_}
-use mathlib.Core.List.{List, [], _∷_, List·Memᴰ, List·Memᴰ·not-nil, List·Memᴰ·cases-cons}
+use mathlib.Core.List.{List, [], _∷_}
 use lib.Dec.{eqb}
 use lib.IntN.{pos}
 use lib.ListN.{length, getD, set, replicate}
@@ -30,8 +30,7 @@ use Rattle.model.specs.Worked.{ran, p5With}
 use Rattle.demands.proofs.Conditions.{roots-decide}
 use Rattle.theory.proofs.Deciding.{shape-decides}
 use Rattle.demands.proofs.Demand1.{demand1}
-use Rattle.theory.proofs.PlainAnswers.{done-plainly}
-use Rattle.demands.proofs.Rivals.{changed, writes, is, threeWords}
+use Rattle.demands.proofs.Rivals.{changed, writes, is, threeWords, no-room}
 use Rattle.theory.proofs.Shape.{Shaped, shaped}
 use Rattle.demands.proofs.TextFaults.{one-text, pieces-text}
 use Rattle.demands.proofs.TextJudged.{broken-row}
@@ -142,12 +141,6 @@ answers-room-breaks-write x =
 abbrev sevenWritten : List Asked
 sevenWritten = alone (Ask.SetInteger 0 (pos 7)) ∷ record { call = Ask.Write 0; text = 46 ∷ [] } ∷ []
 
-no-room-here : List·Memᴰ D3.noRoom (Says.Done ∷ Says.Written 1 ∷ []) → ⊥
-no-room-here m =
-    ⊎-elim (λ (e : D3.noRoom ≡ Says.Done). done-plainly Why.Room (sym e))
-    (λ y. ⊎-elim (λ (e : D3.noRoom ≡ Says.Written 1). written-refused 1 Why.Room (sym e)) (λ z. List·Memᴰ·not-nil z) (List·Memᴰ·cases-cons y))
-    (List·Memᴰ·cases-cons m)
-
 abbrev secondByte : List Reply → ℕ
 secondByte l = at (getD l 1 (record { answer = Says.Done; text = [] }) .text) 0
 
@@ -159,7 +152,8 @@ pub leaves-bytes-breaks-3 : D3.Demand3 tuple leavesBytes → ⊥
 unfolding ran graphReplies graphStep
 leaves-bytes-breaks-3 d =
     let b : _≡_ {A = ℕ} 46 55 =
-    ap secondByte (d .freshAnswers (threeWords 0 1 (omega arith)) (threeWords 0 1 (omega arith)) refl (omega arith) sevenWritten 2 no-room-here .1) in
+    ap secondByte (d .freshAnswers (threeWords 0 1 (omega arith)) (threeWords 0 1 (omega arith)) refl (omega arith) sevenWritten 2
+    (no-room (Says.Done ∷ Says.Written 1 ∷ []) refl) .1) in
     omega arith
 
 -- a call that is no write clears the bytes that it is lent
@@ -169,18 +163,10 @@ clearsBytes = changed (λ c s o. cond (is writes c) o (says (o .answer) (withTex
 abbrev checkedLent : List Asked
 checkedLent = alone Ask.Check ∷ record { call = Ask.Check; text = 46 ∷ [] } ∷ []
 
-no-room-checked : List·Memᴰ D3.noRoom (Says.Sound ∷ Says.Sound ∷ []) → ⊥
-no-room-checked m =
-    ⊎-elim (λ (e : D3.noRoom ≡ Says.Sound). sound-refused e)
-    (λ y. ⊎-elim (λ (e : D3.noRoom ≡ Says.Sound). sound-refused e) (λ z. List·Memᴰ·not-nil z) (List·Memᴰ·cases-cons y))
-    (List·Memᴰ·cases-cons m)
-  where
-    sound-refused : D3.noRoom ≡ Says.Sound → ⊥
-    sound-refused e = let z : _≡_ {A = ℕ} 0 1 = cc in omega arith
-
 pub clears-bytes-breaks-3 : D3.Demand3 tuple clearsBytes → ⊥
 unfolding ran graphReplies graphStep
 clears-bytes-breaks-3 d =
     let b : _≡_ {A = ℕ} 0 46 =
-    ap secondByte (d .freshAnswers (threeWords 0 1 (omega arith)) (threeWords 0 1 (omega arith)) refl (omega arith) checkedLent 2 no-room-checked .1) in
+    ap secondByte (d .freshAnswers (threeWords 0 1 (omega arith)) (threeWords 0 1 (omega arith)) refl (omega arith) checkedLent 2
+    (no-room (Says.Sound ∷ Says.Sound ∷ []) refl) .1) in
     omega arith

@@ -13,7 +13,7 @@ use Rattle.model.specs.Answers.{Outcome, says, refuse}
 use Rattle.model.specs.Changes.{spare}
 use Rattle.model.specs.Collection.{live, collected}
 use Rattle.model.specs.Demand3 as D3
-use Rattle.model.specs.Graph.{Graph, graphLive}
+use Rattle.model.specs.Graph.{Graph, graphCounts}
 use Rattle.model.specs.GraphCalls.{graphStep}
 use Rattle.model.specs.Headers.{Layout, Adjacent}
 use Rattle.model.specs.Represents.{Represents}
@@ -69,7 +69,7 @@ pub record Full (Y : Layout) (c : Call) (s : State) (g : Graph) (o : Outcome Sta
   pub words : ℕ
   pub needs : D3.needed c (s .text) ≡ some words
   pub carried : graphStep c g .answer ≡ Says.Done
-  pub exceed : halfWords (s .heap) < graphLive g + words
+  pub exceed : halfWords (s .heap) < graphCounts g .live + words
   pub answers : o .answer ≡ D3.noRoom
   pub stands : Represents Y (o .left) g
 

@@ -1,11 +1,15 @@
--- Records, states and outcomes are equal by their parts.
+-- Records, counts, states and outcomes are equal by their parts.
 use mathlib.Core.Path.{_≡_}
+use Rattle.model.specs.declared.Counts.{Counts}
 use Rattle.model.specs.declared.Record.{Record}
 use Rattle.model.specs.Answers.{Outcome}
 use Rattle.model.specs.Words.{State}
 
 pub same-record : (q q′ : Record) → q .half ≡ q′ .half → q .free .0 ≡ q′ .free .0 → q ≡ q′
 same-record q q′ h f = λ i. record { half = h i; free = record { 0 = f i } }
+
+pub same-counts : (n n′ : Counts) → n .live ≡ n′ .live → n .objects ≡ n′ .objects → n .addresses ≡ n′ .addresses → n ≡ n′
+same-counts n n′ l o a = λ i. record { live = l i; objects = o i; addresses = a i }
 
 pub same-state : (s s′ : State) → s .heap ≡ s′ .heap → s .roots ≡ s′ .roots → s .«record» ≡ s′ .«record» → s .text ≡ s′ .text
     → s ≡ s′

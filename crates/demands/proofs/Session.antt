@@ -20,7 +20,7 @@ use Rattle.model.specs.Changes.{placed, planted}
 use Rattle.model.specs.Reading.{Parsed, tree, broken, parsed}
 use Rattle.model.specs.Trees.{treeWords}
 use Rattle.model.specs.Demand3 as D3
-use Rattle.model.specs.Graph.{Graph, graphLive}
+use Rattle.model.specs.Graph.{Graph, graphCounts}
 use Rattle.model.specs.GraphCalls.{graphStep, graphWithText, graphAsked, graphReplies, graphAfter}
 use Rattle.model.specs.Headers.{Layout, WritesBoth, Adjacent}
 use Rattle.model.specs.Sessions.{step, machine, Asked, Reply, asked, replies, answers, after}
@@ -105,7 +105,7 @@ module _ (Y : Layout) (law : WritesBoth Y) (near : Adjacent Y) where
 
   -- where live words and the words that a call needs exceed the half, and the graph carries it out, it is "no room"
   read-exceeds : (r n : ℕ) (s : State) (g : Graph) → Represents Y s g → r < length (g .roots) → (x : Parsed) → parsed (s .text) ≡ x
-      → D3.neededBy x ≡ some n → halfWords (s .heap) < graphLive g + n → step Y (Ask.Read r) s .answer ≡ D3.noRoom
+      → D3.neededBy x ≡ some n → halfWords (s .heap) < graphCounts g .live + n → step Y (Ask.Read r) s .answer ≡ D3.noRoom
   read-exceeds r n s g m l (broken k) e w u = absurd (no-some n w)
   read-exceeds r n s g m l (tree t) e w u =
       let q = some-same (treeWords t) n w in
@@ -114,7 +114,7 @@ module _ (Y : Layout) (law : WritesBoth Y) (near : Adjacent Y) where
 
   pub step-exceeds : (c : Call) (s : State) (g : Graph) → Represents Y s g → (n : ℕ) → D3.needed c (s .text) ≡ some n
       → ((k : Refusal) → graphStep c g .answer ≡ Says.Refused k → ⊥)
-      → halfWords (s .heap) < graphLive g + n → step Y c s .answer ≡ D3.noRoom
+      → halfWords (s .heap) < graphCounts g .live + n → step Y c s .answer ≡ D3.noRoom
   step-exceeds (Ask.Allocate k f r) s g m n w a u =
       let l = allocation-legal k f r g a in
       let z = l .0 in

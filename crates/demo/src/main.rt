@@ -49,7 +49,7 @@ fn build(heap: &mut [u32], roots: &mut [u32]) -> Record {
 // The live words of an answer to collect.
 fn live_of(answer: Answer) -> u32 {
     match answer {
-        Answer::Live(live) => live,
+        Answer::Live(counts) => counts.live,
         _ => 0,
     }
 }

@@ -7,6 +7,7 @@ use mathlib.Core.List.{List, [], _++_, append-nil}
 use lib.ListN.{length, take, drop, drop-of-length-le}
 use lib.Seq.{take-all}
 use Rattle.model.specs.declared.Record.{Record}
+use Rattle.model.specs.declared.Counts.{Counts}
 use Rattle.model.specs.declared.Answer.the-variants as Says
 use Rattle.model.specs.Words.{stateOf}
 use Rattle.model.specs.Headers.{Layout}
@@ -21,7 +22,7 @@ module _ (Y : Layout) (H R : List ℕ) (q : Record) (n : ℕ) (all : n ≡ lengt
   pub sound-among : sound Y (stateOf H R q) ≡ true → sound Y (stateOf H (take n R) q) ≡ true
   sound-among e = ap (λ (r : List ℕ). sound Y (stateOf H r q)) first-all ∙ e
 
-  pub collected-among : (H′ R′ : List ℕ) (q′ : Record) (l : ℕ)
+  pub collected-among : (H′ R′ : List ℕ) (q′ : Record) (l : Counts)
       → says (Says.Live l) (stateOf H′ R′ q′) ≡ collection Y (stateOf H (take n R) q)
       → says (Says.Live l) (stateOf H′ (R′ ++ drop n R) q′) ≡ collection Y (stateOf H R q)
   collected-among H′ R′ q′ l e =

@@ -6,20 +6,23 @@ use mathlib.Core.Bool.{true}
 use mathlib.Core.List.{List}
 use lib.ListN.{length}
 use Rattle.model.specs.declared.Half.{Half}
+use Rattle.model.specs.declared.Counts.{Counts}
 use Rattle.model.specs.declared.Answer.the-variants as Says
-use Rattle.model.specs.Limits.{maxHalf}
+use Rattle.model.specs.Limits.{maxHalf, maxRoots}
 use Rattle.model.specs.Words.{State, withHeap, withRoots, withFree, halfWords, other, firstOf, firstWord, otherFirst, free}
 use Rattle.model.specs.Headers.{Layout, Marks}
 use Rattle.model.specs.Soundness.{sound}
-use Rattle.model.specs.Collection.{live, collected}
+use Rattle.model.specs.Collection.{live, counts, collected}
 use Rattle.model.specs.Answers.{says}
 use Rattle.theory.proofs.Shape.{Shaped}
 use Rattle.theory.proofs.Soundness.{SoundTests, sound-parts}
 use Rattle.theory.proofs.Order.{order-fits}
-use Rattle.theory.proofs.Collected.{live-is}
+use Rattle.theory.proofs.Collected.{live-is, addresses-few}
 use Rattle.words.proofs.FirstWords.{first-by-length}
+use Rattle.engine_moving.specs.declared.Tally.{Tally}
+use Rattle.engine_moving.specs.Moving.{addressesMet}
 use Rattle.engine.specs.Evacuation.{Emptied, emptied, movedTo, evacuated, SafeEvacuation}
-use Rattle.engine.proofs.End.{safe, leaves, ended-is, free-is}
+use Rattle.engine.proofs.End.{safe, leaves, ended-is, free-is, objects-is, addresses-is}
 
 module _ (Y : Layout) (K : Marks Y) (s : State) (e : sound Y s ≡ true) where
   v : SoundTests Y s
@@ -42,9 +45,9 @@ module _ (Y : Layout) (K : Marks Y) (s : State) (e : sound Y s ≡ true) where
     pub may-evacuate : SafeEvacuation Y (s .heap) (s .roots) old (free s - old) new
     may-evacuate = rw (old-is, new-is) (safe Y K s v)
 
-    module _ (h′ rs′ : List ℕ) (end : ℕ)
-        (q : emptied h′ rs′ end ≡ evacuated Y (s .heap) (s .roots) old (free s - old) new) where
-      there : emptied h′ rs′ end ≡ leaves Y K s v
+    module _ (h′ rs′ : List ℕ) (end : ℕ) (m : Tally)
+        (q : emptied h′ rs′ end m ≡ evacuated Y (s .heap) (s .roots) old (free s - old) new) where
+      there : emptied h′ rs′ end m ≡ leaves Y K s v
       there =
           q ∙ ap (λ (x : ℕ). evacuated Y (s .heap) (s .roots) x (free s - x) new) old-is
           ∙ ap (evacuated Y (s .heap) (s .roots) (firstWord s) (free s - firstWord s)) new-is
@@ -52,16 +55,34 @@ module _ (Y : Layout) (K : Marks Y) (s : State) (e : sound Y s ≡ true) where
       end-is : end ≡ new + live Y s
       end-is = ap (λ (u : Emptied). u .free) there ∙ free-is Y K s v ∙ ap (λ (x : ℕ). x + live Y s) (sym new-is)
 
+      live-met : end - new ≡ live Y s
+      live-met = omega (arith, end-is)
+
       pub end-low : new ≤ end
       end-low = omega (arith, end-is)
 
       pub end-high : end - new ≤ maxHalf
       end-high = omega (arith, end-is, live-is Y s v, order-fits Y s v, v .shape .small)
 
+      objects-met : m .copied ≡ counts Y s .objects
+      objects-met = ap (λ (u : Emptied). u .tally .copied) there ∙ objects-is Y K s v
+
+      all-addresses : addressesMet m ≡ counts Y s .addresses
+      all-addresses = ap (λ (u : Emptied). addressesMet (u .tally)) there ∙ addresses-is Y K s v
+
+      -- no more of them than roots and words
+      pub met-few : addressesMet m ≤ maxRoots + maxHalf
+      met-few = omega (arith, all-addresses, addresses-few Y s v)
+
       abbrev left : Half → State
       left x = withFree x end (withRoots rs′ (withHeap h′ s))
 
-      pub collect-is : says (Says.Live (end - new)) (left half) ≡ says (Says.Live (live Y s)) (collected Y s)
+      numbers-are : record { live = end - new; objects = m .copied; addresses = m .copied + m .found } ≡ counts Y s
+      unfolding counts
+      numbers-are = λ k. record { live = live-met k; objects = objects-met k; addresses = all-addresses k }
+
+      pub collect-is : says (Says.Live (record { live = end - new; objects = m .copied; addresses = m .copied + m .found })) (left half)
+          ≡ says (Says.Live (counts Y s)) (collected Y s)
       collect-is =
-          ap (λ (x : ℕ). says (Says.Live x) (left half)) (omega (arith, end-is))
-          ∙ ap (λ (x : State). says (Says.Live (live Y s)) x) (ap left i ∙ ap (movedTo s) there ∙ ended-is Y K s v)
+          ap (λ (x : Counts). says (Says.Live x) (left half)) numbers-are
+          ∙ ap (λ (x : State). says (Says.Live (counts Y s)) x) (ap left i ∙ ap (movedTo s) there ∙ ended-is Y K s v)

@@ -10,7 +10,7 @@ use lib.Seq.{ext-getD}
 use Rattle.model.specs.Words.{State, at, halfWords, firstWord, otherFirst, free}
 use Rattle.model.specs.Headers.{Layout, Marks}
 use Rattle.model.specs.Discovery.{mem, packed}
-use Rattle.model.specs.Collection.{cells, orderAt, live, collected}
+use Rattle.model.specs.Collection.{addressesIn, cells, orderAt, order, live, addressesAmong, counts, collected}
 use Rattle.model.specs.During.{during}
 use Rattle.theory.proofs.Tests.{by-test, decide}
 use Rattle.theory.proofs.Members.{In, Out}
@@ -20,15 +20,17 @@ use Rattle.theory.proofs.Keeping.{tile}
 use Rattle.theory.proofs.Order.{free-in}
 use Rattle.theory.proofs.Collected.{new-length, new-old, new-null, new-free, new-text}
 use Rattle.theory.proofs.Stage.{stage-kept, stage-length}
-use Rattle.theory.proofs.During.{order-heads, order-room, end-word, end-roots, end-record}
+use Rattle.theory.proofs.During.{order-heads, order-room, ended, end-word, end-roots, end-record}
 use Rattle.theory.proofs.Middle.{halves-ordered, stage-null}
 use Rattle.runs.specs.Runs.{cleared}
 use Rattle.runs.proofs.RunLaws.{cleared-length, cleared-inside, cleared-outside}
+use Rattle.theory.proofs.Counting.{all-met}
+use Rattle.engine_moving.specs.Moving.{noneMet, addressesMet}
 use Rattle.engine_scanning.specs.Scanning.{between}
-use Rattle.engine.specs.Evacuation.{Emptied, movedTo, rooted, evacuated, SafeEvacuation}
+use Rattle.engine.specs.Evacuation.{Emptied, movedTo, rooted, scanned, evacuated, SafeEvacuation}
 use Rattle.engine.specs.Middle.{stateAfter}
 use Rattle.engine.proofs.Slices.{safe-roots, after-roots, scan-starts, safe-slice}
-use Rattle.engine.proofs.Middle.{state-is}
+use Rattle.engine.proofs.Middle.{state-is, reached}
 
 module _ (Y : Layout) (K : Marks Y) (s : State) (v : SoundTests Y s) where
   abbrev S : ℕ
@@ -41,16 +43,16 @@ module _ (Y : Layout) (K : Marks Y) (s : State) (v : SoundTests Y s) where
   used = free s - firstWord s
 
   abbrev e : Emptied
-  e = rooted Y (s .heap) (s .roots) (otherFirst s)
+  e = rooted Y (s .heap) (s .roots) (otherFirst s) noneMet
 
   -- the fuel of the scan
   abbrev n : ℕ
-  n = length (rooted Y (s .heap) (s .roots) (otherFirst s) .heap) - otherFirst s
+  n = length (rooted Y (s .heap) (s .roots) (otherFirst s) noneMet .heap) - otherFirst s
 
   pub safe : SafeEvacuation Y (s .heap) (s .roots) (firstWord s) (free s - firstWord s) (otherFirst s)
   safe = record {
     roots = safe-roots Y K s v;
-    scan = safe-slice Y K s v n 0 (e .heap) (between t (e .free)) (scan-starts Y K s v);
+    scan = safe-slice Y K s v n 0 (e .heap) (between t (e .free) (e .tally)) (scan-starts Y K s v);
     within = omega (arith, v .shape .low, free-in Y s v);
   }
 
@@ -133,3 +135,31 @@ module _ (Y : Layout) (K : Marks Y) (s : State) (v : SoundTests Y s) where
 
   pub free-is : leaves .free ≡ otherFirst s + live Y s
   free-is = ap (λ (d : State). free d) ended-is ∙ new-free Y s v
+
+  -- ---- what was met
+
+  -- the scan's end: all words are passed, and the order is whole
+  abbrev r : ℕ
+  r = reached Y K s v n .place
+
+  passed-all : length (packed (cells Y (s .heap)) (orderAt Y s r)) ≤ r
+  passed-all =
+      ⊎-elim
+      (λ (q : r ≡ 0 + n). let z : r ≡ n = omega arith in rw z over)
+      (λ (q : length (packed (cells Y (s .heap)) (orderAt Y s r)) ≤ r). q)
+      (reached Y K s v n .whole)
+
+  order-whole : orderAt Y s r ≡ order Y s
+  order-whole = ended Y s v r passed-all
+
+  pub objects-is : leaves .tally .copied ≡ counts Y s .objects
+  unfolding evacuated scanned counts
+  objects-is = reached Y K s v n .scans .copied ∙ ap length order-whole
+
+  -- THE LAW of the numbers: each address met was copied or found
+  pub addresses-is : addressesMet (leaves .tally) ≡ counts Y s .addresses
+  unfolding evacuated scanned counts
+  addresses-is =
+      reached Y K s v n .scans .met
+      ∙ ap (λ (x : ℕ). addressesIn (s .roots) + x)
+      (all-met Y (s .heap) (orderAt Y s r) r passed-all ∙ ap (addressesAmong Y (s .heap)) order-whole)

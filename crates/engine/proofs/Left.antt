@@ -5,6 +5,7 @@ use mathlib.Core.Bool.{true}
 use mathlib.Core.List.{List}
 use lib.ListN.{length}
 use Rattle.model.specs.declared.Record.{Record}
+use Rattle.model.specs.declared.Counts.{Counts}
 use Rattle.model.specs.declared.Answer.the-variants as Says
 use Rattle.model.specs.Words.{State, stateOf}
 use Rattle.model.specs.Headers.{Layout}
@@ -18,7 +19,7 @@ use Rattle.theory.proofs.Collected.{new-roots}
 use Rattle.theory.proofs.CollectedSound.{new-shape}
 
 -- from its answer and the check before it, which changed nothing
-pub left-is : (Y : Layout) (h₁ h rs : List ℕ) (q : Record) → h₁ ≡ h → (n : ℕ) (s′ : State)
+pub left-is : (Y : Layout) (h₁ h rs : List ℕ) (q : Record) → h₁ ≡ h → (n : Counts) (s′ : State)
     → says (Says.Live n) s′ ≡ collection Y (stateOf h₁ rs q) → s′ ≡ collected Y (stateOf h rs q)
 left-is Y h₁ h rs q same n s′ e =
     ap (λ (o : Outcome State). o .left) e ∙ ap (λ (x : List ℕ). collected Y (stateOf x rs q)) same

@@ -26,6 +26,7 @@ use Rattle.theory.proofs.Collected.{live-is}
 use Rattle.theory.proofs.Stage.{stage-passed, stage-coming, stage-rest, stage-header, stage-kept, stage-length}
 use Rattle.theory.proofs.During.{rename-stable, order-heads, order-room, root-found, ended}
 use Rattle.theory.proofs.Middle.{halves-ordered, stage-null, order-later, during-still}
+use Rattle.engine_moving.specs.Moving.{noneMet}
 use Rattle.engine_scanning.specs.Scanning.{Scan, between, run}
 use Rattle.engine.specs.Evacuation.{Emptied, emptied, movedTo, rooted, scanned}
 use Rattle.engine.specs.Middle.{stateAfter, placeAfter, Middle}
@@ -101,7 +102,7 @@ module _ (Y : Layout) (s : State) (v : SoundTests Y s) (p : ℕ) (h : List ℕ) 
 
 module _ (Y : Layout) (K : Marks Y) (s : State) (v : SoundTests Y s) where
   abbrev e : Emptied
-  e = rooted Y (s .heap) (s .roots) (otherFirst s)
+  e = rooted Y (s .heap) (s .roots) (otherFirst s) noneMet
 
   -- the roots keep their words as the order grows
   during-roots : (p : ℕ) → e .roots ≡ during Y s p .roots
@@ -115,7 +116,7 @@ module _ (Y : Layout) (K : Marks Y) (s : State) (v : SoundTests Y s) where
 
   -- a scan that stands after p words
   stands-is : (p : ℕ) (h : List ℕ) (c : Scan) → Scans Y s (orderAt Y s p) p h c
-      → movedTo s (emptied h (e .roots) (c .free)) ≡ during Y s p
+      → movedTo s (emptied h (e .roots) (c .free) (c .tally)) ≡ during Y s p
   unfolding stage
   stands-is p h c I =
       λ i. record {
@@ -127,7 +128,7 @@ module _ (Y : Layout) (K : Marks Y) (s : State) (v : SoundTests Y s) where
 
   -- a slice: from the state after p words, at most n more give the state after p + n
   slice-is : (n p : ℕ) (h : List ℕ) (c : Scan) → Scans Y s (orderAt Y s p) p h c
-      → movedTo s (emptied (run Y n h c .heap) (e .roots) (run Y n h c .scan .free)) ≡ during Y s (p + n)
+      → movedTo s (emptied (run Y n h c .heap) (e .roots) (run Y n h c .scan .free) (run Y n h c .scan .tally)) ≡ during Y s (p + n)
   slice-is n p h c I =
       let r = slice Y K s v n p h c I in
       stands-is (r .place) (run Y n h c .heap) (run Y n h c .scan) (r .scans)
@@ -139,10 +140,10 @@ module _ (Y : Layout) (K : Marks Y) (s : State) (v : SoundTests Y s) where
   pub state-is : (p : ℕ) → stateAfter Y s p ≡ during Y s p
   unfolding stateAfter scanned
   state-is p =
-      slice-is p 0 (e .heap) (between (otherFirst s) (e .free)) (scan-starts Y K s v) ∙ ap (during Y s) (zero-add p)
+      slice-is p 0 (e .heap) (between (otherFirst s) (e .free) (e .tally)) (scan-starts Y K s v) ∙ ap (during Y s) (zero-add p)
 
-  reached : (p : ℕ) → Reached Y s p 0 (run Y p (e .heap) (between (otherFirst s) (e .free)))
-  reached p = slice Y K s v p 0 (e .heap) (between (otherFirst s) (e .free)) (scan-starts Y K s v)
+  pub reached : (p : ℕ) → Reached Y s p 0 (run Y p (e .heap) (between (otherFirst s) (e .free) (e .tally)))
+  reached p = slice Y K s v p 0 (e .heap) (between (otherFirst s) (e .free) (e .tally)) (scan-starts Y K s v)
 
   -- the words passed are p, or all that are live
   words-passed : (p : ℕ) → reached p .place ≡ min p (live Y s)

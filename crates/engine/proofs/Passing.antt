@@ -11,15 +11,16 @@ use Rattle.model.specs.Words.{State, at, otherFirst}
 use Rattle.model.specs.Headers.{Layout, Marks}
 use Rattle.model.specs.Discovery.{mem, visit, packed}
 use Rattle.model.specs.Soundness.{headers}
-use Rattle.model.specs.Collection.{Cell, still, value, cells, wordLeads, cellLeads, settle}
+use Rattle.model.specs.Collection.{Cell, still, value, addressesIn, cells, wordLeads, cellLeads, settle}
 use Rattle.model.specs.During.{oldWord}
 use Rattle.theory.proofs.Tests.{same?}
 use Rattle.theory.proofs.Members.{In, in-append-right, in-self}
-use Rattle.theory.proofs.Visits.{Starts, visit-starts, visit-has}
+use Rattle.theory.proofs.Visits.{Starts, starts-refl, visit-starts, visit-has}
 use Rattle.theory.proofs.Packed.{packed-starts, packed-grows}
+use Rattle.theory.proofs.Counting.{meets, words-most, metAmong, passed-met, passed-most}
 use Rattle.theory.proofs.Soundness.{SoundTests}
 use Rattle.theory.proofs.Middle.{visit-none, header-within, distinct-fits, cell-header}
-use Rattle.engine_moving.specs.Moving.{renamed, MayRename}
+use Rattle.engine_moving.specs.Moving.{counted, addressesMet, MayCount, renamed, MayRename}
 use Rattle.engine_scanning.specs.Scanning.{Scan, passed, MayPass}
 use Rattle.engine_scanning.proofs.PassingLaws.{passed-header, passed-raw, passed-value}
 use Rattle.engine.proofs.Midway.{Midway}
@@ -35,6 +36,9 @@ pub record Scans (Y : Layout) (s : State) (o : List ℕ) (p : ℕ) (h : List ℕ
   pub gone : List ℕ
   pub rest : List ℕ
   pub cursor : Cursor Y (s .heap) o p (c .values) (c .raws) gone rest
+  -- each object of the order was copied; the addresses of the roots and of the words passed were met
+  pub copied : c .tally .copied ≡ length o
+  pub met : addressesMet (c .tally) ≡ addressesIn (s .roots) + metAmong Y (s .heap) o p
 
 module _ (Y : Layout) (K : Marks Y) (s : State) (v : SoundTests Y s) (o : List ℕ) (p : ℕ) (h : List ℕ) (c : Scan)
     (I : Scans Y s o p h c) (more : c .at < c .free) where
@@ -66,6 +70,12 @@ module _ (Y : Layout) (K : Marks Y) (s : State) (v : SoundTests Y s) (o : List �
   stay : (w : ℕ) → here ≡ still w → o ≡ visit o (cellLeads Y here)
   stay w e = sym (ap (λ (x : Cell). visit o (cellLeads Y x)) e ∙ visit-none o)
 
+  -- and is no address
+  met-still : (w : ℕ) → here ≡ still w → addressesMet (c .tally) ≡ addressesIn (s .roots) + metAmong Y (s .heap) o (suc p)
+  met-still w e =
+      let z : meets (cellLeads Y here) ≡ 0 = ap (λ (x : Cell). meets (cellLeads Y x)) e in
+      omega (arith, I .met, passed-met Y (s .heap) o o p (starts-refl o) p-in)
+
   -- ---- a header
 
   module _ (zv : c .values ≡ 0) (zr : c .raws ≡ 0) (k : ℕ) (rest : List ℕ) (e : I .rest ≡ k ∷ rest) where
@@ -92,6 +102,7 @@ module _ (Y : Layout) (K : Marks Y) (s : State) (v : SoundTests Y s) (o : List �
             I .free,
           );
       moves = λ n. absurd (n zv);
+      counts = λ n. absurd (n zv);
     }
 
     header-next : Next o
@@ -104,6 +115,8 @@ module _ (Y : Layout) (K : Marks Y) (s : State) (v : SoundTests Y s) (o : List �
           gone = I .gone ++ (k ∷ []);
           rest = rest;
           cursor = past-header Y H o p (I .gone) k rest between (header-within Y s v k hk);
+          copied = I .copied;
+          met = met-still (at H k) head-is;
         })
 
   abbrev Turn : Type 0
@@ -123,7 +136,7 @@ module _ (Y : Layout) (K : Marks Y) (s : State) (v : SoundTests Y s) (o : List �
   at-raw zv n =
       let k = I .cursor .others 0 (omega arith) in
       let e : here ≡ still (k .0) = ap (λ (y : ℕ). getD (P o) y (still 0)) (omega arith) ∙ k .1 in (
-        record { whole = λ a b. absurd (n b); moves = λ m. absurd (m zv) },
+        record { whole = λ a b. absurd (n b); moves = λ m. absurd (m zv); counts = λ m. absurd (m zv) },
         subst Next (stay (k .0) e)
             (rw (passed-raw Y h c zv n)
             (record {
@@ -133,6 +146,8 @@ module _ (Y : Layout) (K : Marks Y) (s : State) (v : SoundTests Y s) (o : List �
               gone = I .gone;
               rest = I .rest;
               cursor = past-raw Y H o p (c .values) (c .raws) (I .gone) (I .rest) (I .cursor) zv n;
+              copied = I .copied;
+              met = met-still (k .0) e;
             })),
       )
 
@@ -142,7 +157,7 @@ module _ (Y : Layout) (K : Marks Y) (s : State) (v : SoundTests Y s) (o : List �
     abbrev o′ : List ℕ
     o′ = visit o (wordLeads Y w)
 
-    F : Renames Y s o′ p h w (t + length (P o))
+    F : Renames Y s o o′ p h w (t + length (P o))
     F = renames Y K s v o p h (I .mid) w (λ i q. cell-header Y s v o (I .mid .heads) p i p-in (ap (cellLeads Y) e ∙ q))
 
     w-at : at h (c .at) ≡ w
@@ -156,6 +171,12 @@ module _ (Y : Layout) (K : Marks Y) (s : State) (v : SoundTests Y s) (o : List �
 
     value-may : MayRename Y h (at h (c .at)) (c .free)
     value-may = rw (w-at, I .free) (F .may)
+
+    value-met : addressesMet (counted (c .tally) (renamed Y h w (t + length (P o)) .met))
+        ≡ addressesIn (s .roots) + metAmong Y (s .heap) o′ (suc p)
+    value-met =
+        let z : meets (cellLeads Y here) ≡ meets (wordLeads Y w) = ap (λ (x : Cell). meets (cellLeads Y x)) e in
+        omega (arith, F .met (c .tally), I .met, passed-met Y (s .heap) o o′ p grown p-in)
 
     value-next : Next o′
     value-next =
@@ -173,13 +194,29 @@ module _ (Y : Layout) (K : Marks Y) (s : State) (v : SoundTests Y s) (o : List �
           rest = I .rest ++ grown .0;
           cursor = subst (λ (x : List ℕ). Cursor Y H x (suc p) (c .values - 1) (c .raws) (I .gone) (I .rest ++ grown .0)) (sym (grown .1))
               (past-value Y H o p (c .values) (c .raws) (I .gone) (I .rest) (I .cursor) (grown .0) n);
+          copied = F .copied (c .tally) (I .copied);
+          met = value-met;
         })
+
+  -- what was met is no more than the roots and the words passed
+  may-count : MayCount (c .tally)
+  may-count =
+      omega (
+        arith,
+        I .met,
+        words-most Y (s .roots),
+        passed-most Y (s .heap) o p,
+        p-in,
+        distinct-fits Y s v o (I .mid .heads) (I .mid .once),
+        v .shape .few,
+        v .shape .small,
+      )
 
   at-value : (c .values ≡ 0 → ⊥) → Turn
   at-value n =
       let k = I .cursor .fields 0 (omega arith) in
       let e : here ≡ value (k .0) = ap (λ (y : ℕ). getD (P o) y (still 0)) (sym (add-zero p)) ∙ k .1 in (
-        record { whole = λ a b. absurd (n a); moves = λ m. value-may n (k .0) e },
+        record { whole = λ a b. absurd (n a); moves = λ m. value-may n (k .0) e; counts = λ m. may-count },
         subst Next (sym (ap (λ (x : Cell). visit o (cellLeads Y x)) e)) (value-next n (k .0) e),
       )
 

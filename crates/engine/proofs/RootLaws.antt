@@ -8,74 +8,85 @@ use lib.ListN.{length, getD, set, take, drop}
 use lib.Seq.{take-suc-set, drop-set-lt, drop-cons, append-snoc, drop-length, take-length}
 use Rattle.model.specs.Headers.{Layout}
 use Rattle.runs.specs.Runs.{cleared}
-use Rattle.engine_moving.specs.Moving.{Left, renamed, MayRename}
-use Rattle.engine_scanning.specs.Scanning.{Freed, freed, ended, between, run, SafeRun}
+use Rattle.engine_moving.specs.declared.Tally.{Tally}
+use Rattle.engine_moving.specs.Moving.{Left, noneMet, counted, MayCount, renamed, MayRename}
+use Rattle.engine_scanning.specs.Scanning.{Sweep, swept, ended, between, run, SafeRun}
 use Rattle.engine.specs.Evacuation.{Emptied, emptied, rootFirst, rooted, SafeRoots, scanned, evacuated}
-use Rattle.engine.specs.Evacuation.{SafeEvacuation}
+use Rattle.engine.specs.Evacuation.{SafeScan, SafeEvacuation}
 use Rattle.engine_moving.proofs.MovingLaws.{renamed-length}
 
 -- what the roots before an index, done, and the outcome of the others make together
 abbrev pub joined : List ℕ → Emptied → Emptied
-joined p e = emptied (e .heap) (p ++ e .roots) (e .free)
+joined p e = emptied (e .heap) (p ++ e .roots) (e .free) (e .tally)
 
 module _ (Y : Layout) where
-  rooted-cons : (h : List ℕ) (w : ℕ) (rs : List ℕ) (f : ℕ)
-      → rooted Y h (w ∷ rs) f ≡ rootFirst (renamed Y h w f .word) (rooted Y (renamed Y h w f .heap) rs (renamed Y h w f .free))
-  unfolding rooted
-  rooted-cons h w rs f = refl
+  -- what the roots leave, once one is renamed and t was met before it
+  abbrev after-root : Tally → List ℕ → Left → Emptied
+  after-root t rs l = rooted Y (l .heap) rs (l .free) (counted t (l .met))
 
-  safe-cons : (h : List ℕ) (w : ℕ) (rs : List ℕ) (f : ℕ) → SafeRoots Y h (w ∷ rs) f
-      → MayRename Y h w f × SafeRoots Y (renamed Y h w f .heap) rs (renamed Y h w f .free)
+  abbrev safe-after : Tally → List ℕ → Left → Type 0
+  safe-after t rs l = SafeRoots Y (l .heap) rs (l .free) (counted t (l .met))
+
+  rooted-cons : (h : List ℕ) (w : ℕ) (rs : List ℕ) (f : ℕ) (t : Tally)
+      → rooted Y h (w ∷ rs) f t ≡ rootFirst (renamed Y h w f .word) (after-root t rs (renamed Y h w f))
+  unfolding rooted
+  rooted-cons h w rs f t = refl
+
+  safe-cons : (h : List ℕ) (w : ℕ) (rs : List ℕ) (f : ℕ) (t : Tally) → SafeRoots Y h (w ∷ rs) f t
+      → MayRename Y h w f × MayCount t × safe-after t rs (renamed Y h w f)
   unfolding SafeRoots
-  safe-cons h w rs f p = p
+  safe-cons h w rs f t p = p
 
-  pub roots-done : (h rs : List ℕ) (f i : ℕ) → i ≡ length rs
-      → joined (take i rs) (rooted Y h (drop i rs) f) ≡ emptied h rs f
+  pub roots-done : (h rs : List ℕ) (f i : ℕ) (t : Tally) → i ≡ length rs
+      → joined (take i rs) (rooted Y h (drop i rs) f t) ≡ emptied h rs f t
   unfolding rooted
-  roots-done h rs f i e = rw (e, drop-length rs, take-length rs) (rw (append-nil rs))
+  roots-done h rs f i t e = rw (e, drop-length rs, take-length rs) (rw (append-nil rs))
 
   -- root i, those before it renamed
-  module _ (h rs : List ℕ) (f i : ℕ) (more : i < length rs) (safe : SafeRoots Y h (drop i rs) f) where
-    here : MayRename Y h (getD rs i 0) f × SafeRoots Y (renamed Y h (getD rs i 0) f .heap) (drop (suc i) rs)
-        (renamed Y h (getD rs i 0) f .free)
-    here = safe-cons h (getD rs i 0) (drop (suc i) rs) f (rw (drop-cons rs i 0 more) at safe)
+  module _ (h rs : List ℕ) (f i : ℕ) (t : Tally) (more : i < length rs) (safe : SafeRoots Y h (drop i rs) f t) where
+    here : MayRename Y h (getD rs i 0) f × MayCount t × safe-after t (drop (suc i) rs) (renamed Y h (getD rs i 0) f)
+    here = safe-cons h (getD rs i 0) (drop (suc i) rs) f t (rw (drop-cons rs i 0 more) at safe)
 
     pub root-may : MayRename Y h (getD rs i 0) f
     root-may = here .0
 
-    module _ (l : Left) (e : l ≡ renamed Y h (getD rs i 0) f) where
+    pub root-counts : MayCount t
+    root-counts = here .1
+
+    module _ (l : Left) (t′ : Tally) (e : l ≡ renamed Y h (getD rs i 0) f) (n : t′ ≡ counted t (l .met)) where
       pub root-length : length (l .heap) ≡ length h
       root-length = ap (λ (l : Left). length (l .heap)) e ∙ renamed-length Y h (getD rs i 0) f
 
-      pub root-safe : SafeRoots Y (l .heap) (drop (i + 1) (set rs i (l .word))) (l .free)
+      pub root-safe : SafeRoots Y (l .heap) (drop (i + 1) (set rs i (l .word))) (l .free) t′
       root-safe =
-          rw (add-one i, drop-set-lt (suc i) rs i (l .word) (omega arith))
-          (subst (λ (l : Left). SafeRoots Y (l .heap) (drop (suc i) rs) (l .free)) (sym e) (here .1))
+          rw (n, add-one i, drop-set-lt (suc i) rs i (l .word) (omega arith))
+          (subst (safe-after t (drop (suc i) rs)) (sym e) (here .2))
 
-      pub root-turn : joined (take (i + 1) (set rs i (l .word))) (rooted Y (l .heap) (drop (i + 1) (set rs i (l .word))) (l .free))
-          ≡ joined (take i rs) (rooted Y h (drop i rs) f)
+      pub root-turn : joined (take (i + 1) (set rs i (l .word))) (rooted Y (l .heap) (drop (i + 1) (set rs i (l .word))) (l .free) t′)
+          ≡ joined (take i rs) (rooted Y h (drop i rs) f t)
       root-turn =
           rw (
+            n,
             add-one i,
             drop-set-lt (suc i) rs i (l .word) (omega arith),
             take-suc-set rs i (l .word) more,
             drop-cons rs i 0 more,
-            rooted-cons h (getD rs i 0) (drop (suc i) rs) f,
+            rooted-cons h (getD rs i 0) (drop (suc i) rs) f t,
           )
           (rw (append-snoc (take i rs) (l .word), ← e))
 
   -- ---- roots, scan and clearing, in a row
 
-  module _ (h rs : List ℕ) (old used new : ℕ) (h₁ rs₁ : List ℕ) (f₁ : ℕ) (e : emptied h₁ rs₁ f₁ ≡ rooted Y h rs new) where
-    pub scan-safe : SafeEvacuation Y h rs old used new → SafeRun Y (length h₁ - new) h₁ (between new f₁)
-    scan-safe p =
-        subst (λ (v : Emptied). SafeRun Y (length (v .heap) - new) (v .heap) (between new (v .free))) (sym e) (p .scan)
+  module _ (h rs : List ℕ) (old used new : ℕ) (h₁ rs₁ : List ℕ) (f₁ : ℕ) (t₁ : Tally)
+      (e : emptied h₁ rs₁ f₁ t₁ ≡ rooted Y h rs new noneMet) where
+    pub scan-safe : SafeEvacuation Y h rs old used new → SafeRun Y (length h₁ - new) h₁ (between new f₁ t₁)
+    scan-safe p = subst (SafeScan Y new) (sym e) (p .scan)
 
-    pub evacuated-is : (h₂ : List ℕ) (f₂ : ℕ) (h₃ : List ℕ)
-        → freed h₂ f₂ ≡ ended (run Y (length h₁ - new) h₁ (between new f₁))
+    pub evacuated-is : (h₂ : List ℕ) (f₂ : ℕ) (t₂ : Tally) (h₃ : List ℕ)
+        → swept h₂ f₂ t₂ ≡ ended (run Y (length h₁ - new) h₁ (between new f₁ t₁))
         → h₃ ≡ cleared h₂ old used
-        → emptied h₃ rs₁ f₂ ≡ evacuated Y h rs old used new
+        → emptied h₃ rs₁ f₂ t₂ ≡ evacuated Y h rs old used new
     unfolding evacuated scanned
-    evacuated-is h₂ f₂ h₃ a b =
+    evacuated-is h₂ f₂ t₂ h₃ a b =
         rw (b, ← e)
-        (ap (λ (x : Freed). emptied (cleared (x .heap) old used) rs₁ (x .free)) a)
+        (ap (λ (x : Sweep). emptied (cleared (x .heap) old used) rs₁ (x .free) (x .tally)) a)

@@ -6,6 +6,7 @@ use Rattle.model.specs.Words.{State, otherFirst}
 use Rattle.model.specs.Headers.{Layout}
 use Rattle.model.specs.Collection.{live}
 use Rattle.model.specs.During.{during}
+use Rattle.engine_moving.specs.Moving.{noneMet}
 use Rattle.engine.specs.Evacuation.{emptied, movedTo, rooted, scanned}
 
 module _ (Y : Layout) where
@@ -13,13 +14,13 @@ module _ (Y : Layout) where
   unfoldable pub stateAfter : State → ℕ → State
   stateAfter s p =
       let new = otherFirst s in
-      let e = rooted Y (s .heap) (s .roots) new in
+      let e = rooted Y (s .heap) (s .roots) new noneMet in
       let a = scanned Y p new e in
-      movedTo s (emptied (a .heap) (e .roots) (a .scan .free))
+      movedTo s (emptied (a .heap) (e .roots) (a .scan .free) (a .scan .tally))
 
   -- where the scan then stands
   unfoldable pub placeAfter : State → ℕ → ℕ
-  placeAfter s p = let new = otherFirst s in scanned Y p new (rooted Y (s .heap) (s .roots) new) .scan .at
+  placeAfter s p = let new = otherFirst s in scanned Y p new (rooted Y (s .heap) (s .roots) new noneMet) .scan .at
 
   -- of a sound heap, for every p
   pub record Middle (s : State) (p : ℕ) : Type 0 where

@@ -1,7 +1,8 @@
 // One object moved to the free words, and one word renamed.
 ghost use mathlib.Core.Path.{_≡_};
 ghost use Rattle.model.specs.Headers.{tuple};
-ghost use Rattle.engine_moving.specs.Moving.{left, relocated, renamed, MayMove, MayRename};
+ghost use Rattle.engine_moving.specs.Moving.{left, relocated, renamed, counted};
+ghost use Rattle.engine_moving.specs.Moving.{MayMove, MayRename, MayCount};
 use model::Address;
 use model::Index;
 use words::tuple::Tuple;
@@ -19,6 +20,12 @@ pub struct Moved {
     pub to: Address,
     pub free: Index,
     pub met: Met,
+}
+
+// How many words led to an object that was copied then, and how many to one that was copied before.
+pub struct Tally {
+    pub copied: usize,
+    pub found: usize,
 }
 
 // What a word becomes, and the next free word.
@@ -79,5 +86,25 @@ pub fn rename(heap: &mut [u32], word: u32, free: Index) -> Renamed
         word,
         free,
         met: Met::Plain,
+    }
+}
+
+// Counts what one more word led to.
+pub fn count(tally: Tally, met: Met) -> Tally
+    requires { ⌜ MayCount tally ⌝ }
+    ensures { λ r. ⌜ r ≡ counted tally met ⌝ }
+{
+    let copied = tally.copied;
+    let found = tally.found;
+    match met {
+        Met::Plain => tally,
+        Met::Copied => Tally {
+            copied: copied + 1,
+            found,
+        },
+        Met::Found => Tally {
+            copied,
+            found: found + 1,
+        },
     }
 }

@@ -12,7 +12,7 @@ use Rattle.model.specs.Headers.{Layout}
 use Rattle.theory.proofs.Tests.{same?}
 use Rattle.engine_moving.specs.declared.Met.the-variants.{Plain}
 use Rattle.engine_moving.specs.Moving.{Left, left, renamed}
-use Rattle.engine_scanning.specs.Scanning.{Scan, After, freed, stored, onward, valuesOf, rawsOf, fieldPassed, passed}
+use Rattle.engine_scanning.specs.Scanning.{Scan, After, stepped, stored, kept, onward, valuesOf, rawsOf, fieldPassed, passed}
 use Rattle.engine_moving.proofs.MovingLaws.{renamed-length, renamed-free, renamed-nothing}
 
 module _ (Y : Layout) where
@@ -21,10 +21,10 @@ module _ (Y : Layout) where
   module _ (h : List ℕ) (i f : ℕ) where
     -- a field that named no object need not be written
     pub field-plain : (l : Left) → l ≡ renamed Y h (at h i) f → l .met ≡ Plain
-        → freed (l .heap) (l .free) ≡ fieldPassed Y h i f
+        → stepped (l .heap) (l .free) (l .met) ≡ fieldPassed Y h i f
     field-plain l e p =
         let n : renamed Y h (at h i) f ≡ left h (at h i) f Plain = renamed-nothing Y h (at h i) f (ap (λ (x : Left). x .met) (sym e) ∙ p) in
-        rw (e, n) (ap (λ (x : List ℕ). freed x f) (sym (set-getD h i 0)))
+        rw (e, n) (ap (λ (x : List ℕ). stepped x f Plain) (sym (set-getD h i 0)))
 
     pub field-stored : (l : Left) → l ≡ renamed Y h (at h i) f → stored i l ≡ fieldPassed Y h i f
     field-stored l e = ap (stored i) e
@@ -33,11 +33,11 @@ module _ (Y : Layout) where
 
   module _ (h : List ℕ) (c : Scan) where
     pub passed-header : c .values ≡ 0 → c .raws ≡ 0
-        → passed Y h c ≡ onward c (valuesOf Y (at h (c .at))) (rawsOf Y (at h (c .at))) (freed h (c .free))
+        → passed Y h c ≡ onward c (valuesOf Y (at h (c .at))) (rawsOf Y (at h (c .at))) (kept h c)
     unfolding passed
     passed-header v r = rw (eq-eqb (c .values) 0 v, eq-eqb (c .raws) 0 r)
 
-    pub passed-raw : c .values ≡ 0 → (c .raws ≡ 0 → ⊥) → passed Y h c ≡ onward c 0 (c .raws - 1) (freed h (c .free))
+    pub passed-raw : c .values ≡ 0 → (c .raws ≡ 0 → ⊥) → passed Y h c ≡ onward c 0 (c .raws - 1) (kept h c)
     unfolding passed
     passed-raw v r = rw (eq-eqb (c .values) 0 v, ne-eqb (c .raws) 0 r)
 

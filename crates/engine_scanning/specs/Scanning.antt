@@ -9,22 +9,26 @@ use lib.ListN.{length, set}
 use Rattle.model.specs.Words.{at}
 use Rattle.model.specs.Headers.{Layout}
 use Rattle.model.specs.Objects.{isTraced, size}
-use Rattle.engine_moving.specs.Moving.{Left, renamed, MayRename}
+use Rattle.engine_moving.specs.declared.Met.{Met}
+use Rattle.engine_moving.specs.declared.Met.the-variants.{Plain}
+use Rattle.engine_moving.specs.declared.Tally.{Tally}
+use Rattle.engine_moving.specs.Moving.{Left, counted, MayCount, renamed, MayRename}
 
 -- where the scan stands: the next word; how many values, and then how many raw words, are left of the object that it is in;
--- the next free word
+-- the next free word; and what was met so far
 pub record Scan : Type 0 where
   pub at : ℕ
   pub values : ℕ
   pub raws : ℕ
   pub free : ℕ
+  pub tally : Tally
 
-abbrev pub scan : ℕ → ℕ → ℕ → ℕ → Scan
-scan i v r f = record { at = i; values = v; raws = r; free = f }
+abbrev pub scan : ℕ → ℕ → ℕ → ℕ → Tally → Scan
+scan i v r f t = record { at = i; values = v; raws = r; free = f; tally = t }
 
 -- between two objects
-abbrev pub between : ℕ → ℕ → Scan
-between i f = scan i 0 0 f
+abbrev pub between : ℕ → ℕ → Tally → Scan
+between i f t = scan i 0 0 f t
 
 -- what passing leaves: the heap and where the scan stands
 pub record After : Type 0 where
@@ -34,24 +38,38 @@ pub record After : Type 0 where
 abbrev pub after : List ℕ → Scan → After
 after h c = record { heap = h; scan = c }
 
--- the heap and the next free word alone
-pub record Freed : Type 0 where
+-- the heap, the next free word and what was met alone
+pub record Sweep : Type 0 where
   pub heap : List ℕ
   pub free : ℕ
+  pub tally : Tally
 
-abbrev pub freed : List ℕ → ℕ → Freed
-freed h f = record { heap = h; free = f }
+abbrev pub swept : List ℕ → ℕ → Tally → Sweep
+swept h f t = record { heap = h; free = f; tally = t }
 
-abbrev pub ended : After → Freed
-ended a = freed (a .heap) (a .scan .free)
+abbrev pub ended : After → Sweep
+ended a = swept (a .heap) (a .scan .free) (a .scan .tally)
+
+-- what one word leaves: the heap, the next free word, and what it led to
+pub record Step : Type 0 where
+  pub heap : List ℕ
+  pub free : ℕ
+  pub met : Met
+
+abbrev pub stepped : List ℕ → ℕ → Met → Step
+stepped h f m = record { heap = h; free = f; met = m }
 
 -- a word is written where it was read
-abbrev pub stored : ℕ → Left → Freed
-stored i l = freed (set (l .heap) i (l .word)) (l .free)
+abbrev pub stored : ℕ → Left → Step
+stored i l = stepped (set (l .heap) i (l .word)) (l .free) (l .met)
+
+-- a word that is no value leads to nothing
+abbrev pub kept : List ℕ → Scan → Step
+kept h c = stepped h (c .free) Plain
 
 -- the scan goes one word on
-abbrev pub onward : Scan → ℕ → ℕ → Freed → After
-onward c v r x = after (x .heap) (scan (c .at + 1) v r (x .free))
+abbrev pub onward : Scan → ℕ → ℕ → Step → After
+onward c v r x = after (x .heap) (scan (c .at + 1) v r (x .free) (counted (c .tally) (x .met)))
 
 module _ (Y : Layout) where
   -- the values and the raw words that follow a header
@@ -62,7 +80,7 @@ module _ (Y : Layout) where
   rawsOf w = cond (isTraced (Y .kindOf w)) 0 (Y .countOf w)
 
   -- the field at i renamed
-  abbrev pub fieldPassed : List ℕ → ℕ → ℕ → Freed
+  abbrev pub fieldPassed : List ℕ → ℕ → ℕ → Step
   fieldPassed h i f = stored i (renamed Y h (at h i) f)
 
   -- one word passed: a value, a raw word, or the header of the next object
@@ -70,8 +88,8 @@ module _ (Y : Layout) where
   passed h c =
       cond (eqb (c .values) 0)
       (cond (eqb (c .raws) 0)
-      (onward c (valuesOf (at h (c .at))) (rawsOf (at h (c .at))) (freed h (c .free)))
-      (onward c 0 (c .raws - 1) (freed h (c .free))))
+      (onward c (valuesOf (at h (c .at))) (rawsOf (at h (c .at))) (kept h c))
+      (onward c 0 (c .raws - 1) (kept h c)))
       (onward c (c .values - 1) (c .raws) (fieldPassed h (c .at) (c .free)))
 
   -- at most n words passed: the scan ends where it meets the free words
@@ -83,8 +101,9 @@ module _ (Y : Layout) where
   pub record MayPass (h : List ℕ) (c : Scan) : Type 0 where
     -- an object that the scan comes to lies before the free words
     pub whole : c .values ≡ 0 → c .raws ≡ 0 → c .at + size Y h (c .at) ≤ c .free
-    -- what a value leads to may be moved
+    -- what a value leads to may be moved, and counted
     pub moves : (c .values ≡ 0 → ⊥) → MayRename Y h (at h (c .at)) (c .free)
+    pub counts : (c .values ≡ 0 → ⊥) → MayCount (c .tally)
 
   -- the free words lie in the heap, and each word that is passed may be
   unfoldable pub SafeRun : ℕ → List ℕ → Scan → Type 0
@@ -96,10 +115,10 @@ module _ (Y : Layout) where
     pub within : i < length h
     pub moves : MayRename Y h (at h i) f
 
-  pub record MayPassFields (h : List ℕ) (i n f : ℕ) : Type 0 where
+  pub record MayPassFields (h : List ℕ) (i n f : ℕ) (t : Tally) : Type 0 where
     pub whole : i + n ≤ f
-    pub safe : SafeRun n h (scan i n 0 f)
+    pub safe : SafeRun n h (scan i n 0 f t)
 
-  pub record MayPassObject (h : List ℕ) (i f : ℕ) : Type 0 where
+  pub record MayPassObject (h : List ℕ) (i f : ℕ) (t : Tally) : Type 0 where
     pub before : i < f
-    pub safe : SafeRun (size Y h i) h (between i f)
+    pub safe : SafeRun (size Y h i) h (between i f t)

@@ -7,6 +7,8 @@ use Rattle.model.specs.Worked as Worked
 use Rattle.model.specs.Worked.{ran, expected}
 use Rattle.model.specs.CodeWords as CodeWords
 use Rattle.model.specs.TextCases as TextCases
+use Rattle.model.specs.Graph.{graphCounts}
+use Rattle.model.specs.Counting as Counting
 use Rattle.model.specs.Unnamed as Unnamed
 use Rattle.model.specs.Unsound as Unsound
 use Rattle.model.specs.EachCall as EachCall
@@ -19,6 +21,8 @@ pub record AllCases : Type 0 where
   pub coded : map ran CodeWords.codes ≡ map expected CodeWords.codes
   pub spelt : map ran TextCases.writer ≡ map expected TextCases.writer
   pub seen : map ran TextCases.reader ≡ map expected TextCases.reader
+  pub counted : map ran Counting.countings ≡ map expected Counting.countings
+  pub graphCounted : graphCounts Counting.sharedGraph ≡ Counting.sharedCounts
   pub unnamed : map ran Unnamed.namings ≡ map expected Unnamed.namings
   pub unsound : map ran Unsound.judgements ≡ map expected Unsound.judgements
   pub called : map ran EachCall.calls ≡ map expected EachCall.calls
@@ -31,6 +35,8 @@ all-cases = record {
   coded = CodeWords.coded;
   spelt = TextCases.spelt;
   seen = TextCases.seen;
+  counted = Counting.counted;
+  graphCounted = Counting.graphCounted;
   unnamed = Unnamed.unnamed;
   unsound = Unsound.unsound;
   called = EachCall.called;

@@ -6,6 +6,7 @@ use lib.IntN.{ℤ, pos}
 use Rattle.model.specs.declared.Kind.the-variants.{Traced, Untraced}
 use Rattle.model.specs.declared.Refusal.{Refusal}
 use Rattle.model.specs.declared.Refusal.the-variants as Why
+use Rattle.model.specs.declared.Counts.{Counts}
 use Rattle.model.specs.declared.Answer.{Answer}
 use Rattle.model.specs.declared.Answer.the-variants as Says
 use Rattle.model.specs.declared.Answered.{Answered}
@@ -43,20 +44,31 @@ number Why.Value = 10
 number Why.Deep = 11
 number Why.Text = 12
 
--- an answer in numbers: only an integer has a sign, and only a text's length may need more than 32 bits, so that each of these
--- has a place of its own
+-- an answer in numbers: only an integer has a sign, only a text's length may need more than 32 bits, and only a collection has
+-- three numbers, so that each of these has a place of its own
 abbrev pub tells : ℕ → ℕ → ℕ → Told
-tells k h v = record { refusal = k; holds = h; integer = pos 0; value = v; length = 0 }
+tells k h v = record { refusal = k; holds = h; integer = pos 0; value = v; length = 0; objects = 0; addresses = 0 }
 
 abbrev pub tellsInteger : ℤ → Told
-tellsInteger v = record { refusal = 0; holds = 1; integer = v; value = 0; length = 0 }
+tellsInteger v = record { refusal = 0; holds = 1; integer = v; value = 0; length = 0; objects = 0; addresses = 0 }
 
 abbrev pub tellsLength : ℕ → Told
-tellsLength n = record { refusal = 0; holds = 0; integer = pos 0; value = 0; length = n }
+tellsLength n = record { refusal = 0; holds = 0; integer = pos 0; value = 0; length = n; objects = 0; addresses = 0 }
+
+abbrev pub tellsCounts : Counts → Told
+tellsCounts c = record {
+  refusal = 0;
+  holds = 0;
+  integer = pos 0;
+  value = c .live;
+  length = 0;
+  objects = c .objects;
+  addresses = c .addresses;
+}
 
 abbrev pub told : Answer → Told
 told Says.Done = tells 0 0 0
-told (Says.Live n) = tells 0 0 n
+told (Says.Live c) = tellsCounts c
 told Says.Sound = tells 0 0 1
 told Says.Unsound = tells 0 0 0
 told Says.Yes = tells 0 0 1

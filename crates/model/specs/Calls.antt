@@ -20,7 +20,7 @@ use Rattle.model.specs.Headers.{Layout}
 use Rattle.model.specs.Shape.{badLength}
 use Rattle.model.specs.Objects.{isTraced, index, kind, fieldCount, fieldIndex, fieldWords, names}
 use Rattle.model.specs.Soundness.{sound}
-use Rattle.model.specs.Collection.{live, collected}
+use Rattle.model.specs.Collection.{counts, collected}
 use Rattle.model.specs.Answers.{Outcome, says, refuse}
 use Rattle.model.specs.Texts.{Form, asInteger, asTuple, textless, maxDepth, valuePieces, Spelled, spelled, writes}
 use Rattle.model.specs.Admission.{onRoots}
@@ -82,7 +82,7 @@ module _ (Y : Layout) where
   collect s =
       onRoots [] s
       (refuse (not (sound Y s)) Why.Damaged s
-      (says (Says.Live (live Y s)) (collected Y s)))
+      (says (Says.Live (counts Y s)) (collected Y s)))
 
   -- a change that needs n words: if they fit, it is made; if not, it collects first and tries again
   abbrev pub withRoom : ℕ → (State → State) → State → Outcome State

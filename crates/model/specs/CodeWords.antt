@@ -7,7 +7,7 @@ use Rattle.model.specs.declared.Half.the-variants.{A, B}
 use Rattle.model.specs.declared.Call.{Call}
 use Rattle.model.specs.declared.Call.the-variants as Ask
 use Rattle.model.specs.Words.{State}
-use Rattle.model.specs.Worked.{Case, case, one, unchanged, expected, ran, done, refused, gives, holdsCode}
+use Rattle.model.specs.Worked.{Case, case, one, unchanged, expected, ran, done, refused, gives, counted, holdsCode}
 use Rattle.model.specs.Worked.{state, p5, p5With}
 
 -- a code word is set into root 0 and inspected there
@@ -35,7 +35,7 @@ codes =
     -- ROOT before RANGE: there are two roots
     ∷ unchanged (p5With 24 12) (Ask.SetCode 2 0 ∷ []) (refused 2 ∷ [])
     -- never followed, never changed
-    ∷ one withCode Ask.Collect (gives 3) withCode′
+    ∷ one withCode Ask.Collect (counted 3 1 2) withCode′
     -- sound, and no object: inspect says what it is
     ∷ unchanged withCode′ (Ask.Check ∷ Ask.Inspect 0 ∷ onObject)
     (gives 1 ∷ holdsCode 16_777_218 ∷ replicate 4 (refused 5))

@@ -2,17 +2,18 @@
 -- objects are met, their copies end to end in that order, and every address renamed by it.
 use Prim.Native.Nat.{ℕ, _+_, _-_}
 use mathlib.Core.Bool.{cond}
-use mathlib.Core.List.{List, _∷_, _++_, map}
+use mathlib.Core.List.{List, [], _∷_, _++_, map}
 use mathlib.Core.Option.{Option, none, some}
 use lib.ListN.{length, replicate}
 use Rattle.model.specs.declared.Half.{Half}
 use Rattle.model.specs.declared.Half.the-variants.{A, B}
 use Rattle.model.specs.declared.Kind.{Kind}
 use Rattle.model.specs.declared.Kind.the-variants.{Traced, Untraced}
+use Rattle.model.specs.declared.Counts.{Counts}
 use Rattle.model.specs.Words.{State, withHeap, withRoots, withFree, at, halfWords, other, otherFirst}
 use Rattle.model.specs.Values.{isAddress}
 use Rattle.model.specs.Headers.{Layout}
-use Rattle.model.specs.Objects.{address, index, kind, fieldWords}
+use Rattle.model.specs.Objects.{isTraced, address, index, kind, fieldWords}
 use Rattle.model.specs.Discovery.{packed, wordsBefore, found}
 
 -- a word of an object: `still w`, a header or a raw word, or `value w`, a field of a traced object
@@ -23,6 +24,11 @@ pub data Cell : Type 0 where
 abbrev pub fieldCell : Kind → ℕ → Cell
 fieldCell Traced w = value w
 fieldCell Untraced w = still w
+
+-- how many of some words are object addresses: each counts as often as it stands there
+unfoldable pub addressesIn : List ℕ → ℕ
+addressesIn [] = 0
+addressesIn (w ∷ ws) = cond (isAddress w) 1 0 + addressesIn ws
 
 -- the halves put together again: word 0, then half A, then half B
 abbrev pub build : Half → List ℕ → List ℕ → List ℕ
@@ -57,6 +63,23 @@ module _ (Y : Layout) where
   -- L, the words of the objects of the order
   unfoldable pub live : State → ℕ
   live s = length (packed (cells (s .heap)) (order s))
+
+  -- the object addresses in the fields of the object at i, if it is traced; and in those of the objects of a list
+  abbrev pub addressesOf : List ℕ → ℕ → ℕ
+  addressesOf H i = cond (isTraced (kind Y H i)) (addressesIn (fieldWords Y H i)) 0
+
+  unfoldable pub addressesAmong : List ℕ → List ℕ → ℕ
+  addressesAmong H [] = 0
+  addressesAmong H (i ∷ o) = addressesOf H i + addressesAmong H o
+
+  -- what a collection counts: L, the objects of the order, and the object addresses in the roots and in the fields of the
+  -- order's traced objects
+  unfoldable pub counts : State → Counts
+  counts s = record {
+    live = live s;
+    objects = length (order s);
+    addresses = addressesIn (s .roots) + addressesAmong (s .heap) (order s);
+  }
 
   -- what a word becomes, where the copies of the order o stand packed from the index b on
   unfoldable pub rename : List ℕ → List ℕ → ℕ → ℕ → ℕ

@@ -1,5 +1,6 @@
 -- Demand 2: a collection keeps exactly one copy of each reachable object and of nothing else; fields and sharing agree; the
--- copies are packed in the order in which they are met; the answer is the words of the reachable objects.
+-- copies are packed in the order in which they are met; the answer is the words of the reachable objects, their number, and that of
+-- the object addresses in roots and in their fields.
 use Prim.Native.Nat.{ℕ, suc, _+_, _≤_, _<_}
 use mathlib.Core.Path.{_≡_}
 use mathlib.Core.Logic.{_⊎_}
@@ -7,6 +8,7 @@ use mathlib.Core.Bool.{true}
 use mathlib.Core.List.{List, [], _∷_, _++_, map, List·Memᴰ}
 use lib.ListN.{length, getD, take}
 use Rattle.model.specs.declared.Kind.the-variants.{Traced, Untraced}
+use Rattle.model.specs.declared.Counts.{Counts}
 use Rattle.model.specs.declared.Answer.the-variants as Says
 use Rattle.model.specs.declared.Call.the-variants as Ask
 use Rattle.model.specs.Words.{State, at, other, firstWord, otherFirst, free}
@@ -15,7 +17,7 @@ use Rattle.model.specs.Headers.{Layout}
 use Rattle.model.specs.Objects.{address, index, kind, fieldCount, size, fieldIndex}
 use Rattle.model.specs.Discovery.{visits, packed, wordsBefore}
 use Rattle.model.specs.Soundness.{headers}
-use Rattle.model.specs.Collection.{cells, wordLeads, cellLeads, order}
+use Rattle.model.specs.Collection.{addressesIn, cells, wordLeads, cellLeads, order, addressesAmong}
 use Rattle.model.specs.Changes.{rootWord}
 use Rattle.model.specs.Sessions.{Machine}
 use Rattle.model.specs.Conditions.{Sound}
@@ -23,6 +25,12 @@ use Rattle.model.specs.Conditions.{Sound}
 -- no number twice: two places that hold the same are one
 abbrev pub EachOnce : List ℕ → Type 0
 EachOnce o = (k l : ℕ) → k < length o → l < length o → getD o k 0 ≡ getD o l 0 → k ≡ l
+
+-- a list of exactly the numbers that are P, each once
+pub record Lists (P : ℕ → Type 0) (o : List ℕ) : Type 0 where
+  pub once : EachOnce o
+  pub listed : (i : ℕ) → List·Memᴰ i o → P i
+  pub reached : (i : ℕ) → P i → List·Memᴰ i o
 
 module _ (Y : Layout) where
   -- an object is reachable: a root holds its address, or a field of a reachable traced object does
@@ -58,12 +66,10 @@ module _ (Y : Layout) where
     pub code : isCode w ≡ true → w′ ≡ w
     pub moves : isAddress w ≡ true → w′ ≡ address Y (copyIndex s (index Y w))
 
-  -- a state, and what its collection leaves with the answer L
-  pub record Collects (s s′ : State) (L : ℕ) : Type 0 where
+  -- a state, and what its collection leaves with the numbers that it answers
+  pub record Collects (s s′ : State) (n : Counts) : Type 0 where
     -- the order lists exactly the reachable objects, each once
-    pub listed : (i : ℕ) → List·Memᴰ i (order Y s) → Reach s i
-    pub reached : (i : ℕ) → Reach s i → List·Memᴰ i (order Y s)
-    pub once : EachOnce (order Y s)
+    pub lists : Lists (Reach s) (order Y s)
     -- it is the first meetings, and no other list of reachable objects is
     pub met : FirstMeetings s (order Y s)
     pub only : (o : List ℕ) → FirstMeetings s o → ((i : ℕ) → List·Memᴰ i o → Reach s i) → o ≡ order Y s
@@ -89,22 +95,26 @@ module _ (Y : Layout) where
     pub cleared : (i : ℕ) → (i < firstWord s′) ⊎ (free s′ ≤ i) → at (s′ .heap) i ≡ 0
     -- and no byte of a text that is lent
     pub sameText : s′ .text ≡ s .text
-    -- L is the sum of n + 1 over the reachable objects, and the free index less the half's first word
-    pub counts : L ≡ sizes (s .heap) (order Y s)
-    pub used : free s′ ≡ firstWord s′ + L
+    -- of whatever list of exactly the reachable objects, each once: L is the sum of n + 1, the objects are its length, and the
+    -- addresses are those in the fields of its traced objects and in the roots
+    pub live : (o : List ℕ) → Lists (Reach s) o → n .live ≡ sizes (s .heap) o
+    pub objects : (o : List ℕ) → Lists (Reach s) o → n .objects ≡ length o
+    pub addresses : (o : List ℕ) → Lists (Reach s) o → n .addresses ≡ addressesIn (s .roots) + addressesAmong Y (s .heap) o
+    -- L is the free index less the half's first word
+    pub used : free s′ ≡ firstWord s′ + n .live
     -- and it can be collected again
     pub again : Sound Y s′
 
-  -- of the call: its answer is L, and it leaves that
+  -- of the call: its answer is these numbers, and it leaves that
   pub record CollectsBy (M : Machine) (s : State) : Type 0 where
-    pub L : ℕ
-    pub answers : M .step Ask.Collect s .answer ≡ Says.Live L
-    pub leaves : Collects s (M .step Ask.Collect s .left) L
+    pub counts : Counts
+    pub answers : M .step Ask.Collect s .answer ≡ Says.Live counts
+    pub leaves : Collects s (M .step Ask.Collect s .left) counts
 
   -- for every sound state
   abbrev pub Demand2 : Machine → Type 0
   Demand2 M = (s : State) → Sound Y s → CollectsBy M s
 
-  -- and this leaves no choice: what meets it is one state and one number
+  -- and this leaves no choice: what meets it is one state and the same three numbers
   abbrev pub NoChoice : Type 0
-  NoChoice = (s t t′ : State) (L L′ : ℕ) → Collects s t L → Collects s t′ L′ → (t ≡ t′) × (L ≡ L′)
+  NoChoice = (s t t′ : State) (n n′ : Counts) → Collects s t n → Collects s t′ n′ → (t ≡ t′) × (n ≡ n′)

@@ -23,10 +23,11 @@ use Rattle.model.specs.Answers.{number, told}
 use Rattle.model.specs.Changes.{rootWord}
 use Rattle.model.specs.Conditions.{Sound}
 use Rattle.model.specs.Sessions.{Machine, Asked, asked, replies, answers, after}
-use Rattle.model.specs.Graph.{Value, plain, null, object, Object, traced, untraced, Graph, emptyGraph, nth, rootValue, graphLive}
+use Rattle.model.specs.Graph.{Value, plain, null, object, Object, traced, untraced, Graph, emptyGraph, nth, rootValue}
+use Rattle.model.specs.Graph.{objectsIn, objectsAmong, graphCounts}
 use Rattle.model.specs.GraphCalls.{graphAsked, graphReplies, graphAfter}
 use Rattle.model.specs.Represents.{Represents}
-use Rattle.model.specs.Demand2.{EachOnce}
+use Rattle.model.specs.Demand2.{Lists}
 use Rattle.model.specs.Trees.{treeWords}
 use Rattle.model.specs.Reading.{Parsed, tree, broken, parsed}
 
@@ -95,9 +96,9 @@ pub record Exceeds (S : ℕ) (g : Graph) (c : Asked) : Type 0 where
   pub unrefused : (k : Refusal) → graphAsked c g .answer ≡ Says.Refused k → ⊥
   pub words : ℕ
   pub needs : needed (c .call) (c .text) ≡ some words
-  pub exceed : S < graphLive g + words
+  pub exceed : S < graphCounts g .live + words
 
--- ---- the graph's live words
+-- ---- what a collection counts of the graph
 
 -- an object of the graph is reachable
 pub data Reachable (g : Graph) : ℕ → Type 0 where
@@ -112,12 +113,6 @@ graphSize (untraced ws) = length ws + 1
 abbrev pub graphSizes : Graph → List ℕ → ℕ
 graphSizes g [] = 0
 graphSizes g (i ∷ o) = graphSize (nth g i) + graphSizes g o
-
--- a list of exactly the reachable objects, each once
-pub record Lists (g : Graph) (o : List ℕ) : Type 0 where
-  pub once : EachOnce o
-  pub listed : (i : ℕ) → List·Memᴰ i o → Reachable g i
-  pub reached : (i : ℕ) → Reachable g i → List·Memᴰ i o
 
 -- ---- the demand
 
@@ -138,11 +133,14 @@ module _ (M : Machine) where
   abbrev pub Never : Refusal → State → Type 0
   Never k s = (cs : List Asked) → List·Memᴰ (Says.Refused k) (answers M cs s) → ⊥
 
--- live words are the sum of n + 1 over the reachable objects of the graph: some list names each of them once, and every such list
--- has that sum
-pub record LiveWords (g : Graph) : Type 0 where
-  pub listable : (o : List ℕ) × Lists g o
-  pub live : (o : List ℕ) → Lists g o → graphLive g ≡ graphSizes g o
+-- what a collection counts, said by what is reachable: some list names each reachable object of the graph once, and of every such
+-- list live words are the sum of n + 1, the objects its length, and the addresses the values that are objects in the fields of its
+-- traced objects and in the roots
+pub record LiveCounts (g : Graph) : Type 0 where
+  pub listable : (o : List ℕ) × Lists (Reachable g) o
+  pub live : (o : List ℕ) → Lists (Reachable g) o → graphCounts g .live ≡ graphSizes g o
+  pub objects : (o : List ℕ) → Lists (Reachable g) o → graphCounts g .objects ≡ length o
+  pub addresses : (o : List ℕ) → Lists (Reachable g) o → graphCounts g .addresses ≡ objectsIn (g .roots) + objectsAmong g o
 
 -- each word is one of 32 bits, as the words of a host are
 pub record OfWords (s : State) : Type 0 where
@@ -154,7 +152,7 @@ pub record Demand3 (Y : Layout) (M : Machine) : Type 0 where
   pub sameAnswers : (small large : State) (g : Graph) → Represents Y small g → Represents Y large g
       → halfWords (small .heap) ≤ halfWords (large .heap) → SameAnswers M small large g
   pub room : (s : State) (g : Graph) → Represents Y s g → RoomExactly M (halfWords (s .heap)) s g
-  pub live : (s : State) (g : Graph) → Represents Y s g → LiveWords g
+  pub live : (s : State) (g : Graph) → Represents Y s g → LiveCounts g
   -- in a session SHAPE and DAMAGED never occur
   pub neverShape : (s : State) (g : Graph) → Represents Y s g → Never M Why.Shape s
   pub neverDamaged : (s : State) (g : Graph) → Represents Y s g → Never M Why.Damaged s
@@ -169,7 +167,7 @@ pub record Demand3 (Y : Layout) (M : Machine) : Type 0 where
   pub freshAnswers : (small large : Session) → small .nullRoots ≡ large .nullRoots → small .S ≤ large .S
       → SameAnswers M (begun M small) (begun M large) (emptyGraph (small .nullRoots))
   pub freshRoom : (e : Session) → RoomExactly M (e .S) (begun M e) (emptyGraph (e .nullRoots))
-  pub freshLive : (cs : List Asked) (n : ℕ) → LiveWords (graphAfter cs (emptyGraph n))
+  pub freshLive : (cs : List Asked) (n : ℕ) → LiveCounts (graphAfter cs (emptyGraph n))
   pub staysSound : (e : Session) (cs : List Asked) → Sound Y (after M cs (begun M e))
   pub freshNeverShape : (e : Session) → Never M Why.Shape (begun M e)
   pub freshNeverDamaged : (e : Session) → Never M Why.Damaged (begun M e)

@@ -10,7 +10,7 @@ use Rattle.model.specs.declared.Kind.the-variants.{Traced, Untraced}
 use Rattle.model.specs.declared.Call.the-variants as Ask
 use Rattle.model.specs.Words.{State}
 use Rattle.model.specs.Worked.{Case, case, one, unchanged, expected, ran}
-use Rattle.model.specs.Worked.{done, refused, gives, holdsNull, holdsInteger, holdsTraced, holdsUntraced}
+use Rattle.model.specs.Worked.{done, refused, gives, counted, holdsNull, holdsInteger, holdsTraced, holdsUntraced}
 use Rattle.model.specs.Worked.{state, blank, p5, p5′, p5With, oneNull}
 use Rattle.model.specs.Unsound.{rootCalls}
 
@@ -80,20 +80,20 @@ copies f ws R = state B f (replicate 8 0 ++ ws) R
 abbrev pub ordered : List Case
 ordered =
     -- two fields of one object, met by rising number, whichever address is lower
-    one (fork 16 24 (4 ∷ [])) Ask.Collect (gives 6) (copies 14 (4 ∷ 44 ∷ 52 ∷ 2 ∷ 21 ∷ 0 ∷ 0 ∷ []) (32 ∷ []))
-    ∷ one (fork 24 16 (4 ∷ [])) Ask.Collect (gives 6) (copies 14 (4 ∷ 44 ∷ 48 ∷ 0 ∷ 2 ∷ 21 ∷ 0 ∷ []) (32 ∷ []))
+    one (fork 16 24 (4 ∷ [])) Ask.Collect (counted 6 3 3) (copies 14 (4 ∷ 44 ∷ 52 ∷ 2 ∷ 21 ∷ 0 ∷ 0 ∷ []) (32 ∷ []))
+    ∷ one (fork 24 16 (4 ∷ [])) Ask.Collect (counted 6 3 3) (copies 14 (4 ∷ 44 ∷ 48 ∷ 0 ∷ 2 ∷ 21 ∷ 0 ∷ []) (32 ∷ []))
     -- met again, an object is only renamed
-    ∷ one (fork 16 16 (4 ∷ [])) Ask.Collect (gives 5) (copies 13 (4 ∷ 44 ∷ 44 ∷ 2 ∷ 21 ∷ 0 ∷ 0 ∷ []) (32 ∷ []))
+    ∷ one (fork 16 16 (4 ∷ [])) Ask.Collect (counted 5 2 3) (copies 13 (4 ∷ 44 ∷ 44 ∷ 2 ∷ 21 ∷ 0 ∷ 0 ∷ []) (32 ∷ []))
     -- the roots come first, by rising number, whichever address is lower
-    ∷ one (fork 16 24 (4 ∷ 24 ∷ [])) Ask.Collect (gives 6)
+    ∷ one (fork 16 24 (4 ∷ 24 ∷ [])) Ask.Collect (counted 6 3 4)
     (copies 14 (4 ∷ 48 ∷ 44 ∷ 0 ∷ 2 ∷ 21 ∷ 0 ∷ []) (32 ∷ 44 ∷ []))
-    ∷ one (fork 16 24 (24 ∷ 4 ∷ [])) Ask.Collect (gives 6)
+    ∷ one (fork 16 24 (24 ∷ 4 ∷ [])) Ask.Collect (counted 6 3 4)
     (copies 14 (0 ∷ 4 ∷ 48 ∷ 32 ∷ 2 ∷ 21 ∷ 0 ∷ []) (32 ∷ 36 ∷ []))
     -- then the copied objects in their new order: the object at 6 before the one at 7, which the one at 4 names
-    ∷ one (state A 8 (0 ∷ 4 ∷ 16 ∷ 24 ∷ 2 ∷ 28 ∷ 0 ∷ 0x80000000 ∷ replicate 7 0) (4 ∷ [])) Ask.Collect (gives 7)
+    ∷ one (state A 8 (0 ∷ 4 ∷ 16 ∷ 24 ∷ 2 ∷ 28 ∷ 0 ∷ 0x80000000 ∷ replicate 7 0) (4 ∷ [])) Ask.Collect (counted 7 4 4)
     (copies 15 (4 ∷ 44 ∷ 52 ∷ 2 ∷ 56 ∷ 0 ∷ 0x80000000 ∷ []) (32 ∷ []))
     -- from half B back to half A
-    ∷ one (copies 14 (4 ∷ 44 ∷ 52 ∷ 2 ∷ 21 ∷ 0 ∷ 0 ∷ []) (32 ∷ [])) Ask.Collect (gives 6) (fork 16 24 (4 ∷ []))
+    ∷ one (copies 14 (4 ∷ 44 ∷ 52 ∷ 2 ∷ 21 ∷ 0 ∷ 0 ∷ []) (32 ∷ [])) Ask.Collect (counted 6 3 3) (fork 16 24 (4 ∷ []))
     ∷ []
 
 -- ---- the lowest rank that applies

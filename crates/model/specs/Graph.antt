@@ -1,10 +1,11 @@
 -- The object graph with unlimited room that demand 3 compares with: objects in a growing list, named by their number in it.
--- What is reachable, and how many words that is; the calls are in GraphCalls.
+-- What is reachable, and what a collection counts of it; the calls are in GraphCalls.
 use Prim.Native.Nat.{ℕ, _+_}
 use mathlib.Core.List.{List, [], _∷_, map}
 use mathlib.Core.Option.{Option, none, some}
 use lib.ListN.{length, getD, replicate}
 use lib.IntN.{ℤ}
+use Rattle.model.specs.declared.Counts.{Counts}
 use Rattle.model.specs.Discovery.{packed, found}
 
 -- a value that is no object
@@ -62,6 +63,27 @@ totalWords (b ∷ bs) = length (objectCells b) + totalWords bs
 unfoldable pub graphOrder : Graph → ℕ → List ℕ
 graphOrder g p = found (graphCells g) none itself (map valueLeads (g .roots)) p
 
--- the words of the reachable objects
-unfoldable pub graphLive : Graph → ℕ
-graphLive g = length (packed (graphCells g) (graphOrder g (totalWords (g .objects))))
+-- how many of some values are objects; in the fields of an object, if it is traced; and in those of the objects of a list
+unfoldable pub objectsIn : List Value → ℕ
+objectsIn [] = 0
+objectsIn (plain p ∷ vs) = objectsIn vs
+objectsIn (object i ∷ vs) = 1 + objectsIn vs
+
+abbrev pub objectsOf : Object → ℕ
+objectsOf (traced vs) = objectsIn vs
+objectsOf (untraced ws) = 0
+
+unfoldable pub objectsAmong : Graph → List ℕ → ℕ
+objectsAmong g [] = 0
+objectsAmong g (i ∷ o) = objectsOf (nth g i) + objectsAmong g o
+
+-- what a collection counts: the words of the reachable objects, these objects, and the values that are objects in the roots and in
+-- the fields of those that are traced
+unfoldable pub graphCounts : Graph → Counts
+graphCounts g =
+    let o = graphOrder g (totalWords (g .objects)) in
+    record {
+      live = length (packed (graphCells g) o);
+      objects = length o;
+      addresses = objectsIn (g .roots) + objectsAmong g o;
+    }

@@ -20,7 +20,7 @@ use Rattle.model.specs.Texts.{Form, asInteger, asTuple, textless, maxDep
 use Rattle.model.specs.Trees.{Forest, end, leafThen, nodeThen, Tree, leaf, node, count}
 use Rattle.model.specs.Reading.{Parsed, tree, broken, parsed}
 use Rattle.model.specs.Sessions.{Asked, Reply}
-use Rattle.model.specs.Graph.{Plain, integer, null, code, Value, plain, object, Object, traced, untraced, Graph, nth, rootValue, graphLive}
+use Rattle.model.specs.Graph.{Plain, integer, null, code, Value, plain, object, Object, traced, untraced, Graph, nth, rootValue, graphCounts}
 
 -- ROOT of the root numbers that a call names comes first; a graph has no shape to be refused
 abbrev pub onGraphRoots : List ℕ → Graph → Outcome Graph → Outcome Graph
@@ -134,7 +134,7 @@ valueForm g (plain p) = plainForm p
 valueForm g (object i) = objectForm (nth g i)
 
 unfoldable pub graphStep : Call → Graph → Outcome Graph
-graphStep Ask.Collect g = onGraphRoots [] g (says (Says.Live (graphLive g)) g)
+graphStep Ask.Collect g = onGraphRoots [] g (says (Says.Live (graphCounts g)) g)
 graphStep Ask.Check g = onGraphRoots [] g (says Says.Sound g)
 graphStep (Ask.Allocate kind fields to) g =
     onGraphRoots (to ∷ []) g

@@ -25,6 +25,7 @@ pub mod GraphCalls
 pub mod Worked
 pub mod CodeWords
 pub mod TextCases
+pub mod Counting
 pub mod Unnamed
 pub mod Unsound
 pub mod EachCall

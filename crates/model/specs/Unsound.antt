@@ -11,15 +11,16 @@ use Rattle.model.specs.declared.Half.{Half}
 use Rattle.model.specs.declared.Half.the-variants.{A, B}
 use Rattle.model.specs.declared.Kind.the-variants.{Traced}
 use Rattle.model.specs.declared.Call.{Call}
+use Rattle.model.specs.declared.Told.{Told}
 use Rattle.model.specs.declared.Call.the-variants as Ask
 use Rattle.model.specs.Words.{State}
 use Rattle.model.specs.Headers.{tuple}
 use Rattle.model.specs.Soundness.{sound}
-use Rattle.model.specs.Worked.{Case, case, unchanged, expected, ran, state, refused, gives, holdsTraced}
+use Rattle.model.specs.Worked.{Case, case, unchanged, expected, ran, state, refused, gives, counted, holdsTraced}
 
--- the heap is sound: L, and what its collection leaves
-abbrev pub isSound : State → ℕ → State → Case
-isSound s L e = case s (Ask.Check ∷ Ask.Collect ∷ []) (gives 1 ∷ gives L ∷ []) e
+-- the heap is sound: what its collection counts, and what it leaves
+abbrev pub isSound : State → Told → State → Case
+isSound s n e = case s (Ask.Check ∷ Ask.Collect ∷ []) (gives 1 ∷ n ∷ []) e
 
 -- it is not: a collection is DAMAGED, and so is an allocation that calls for one (in a sound heap it is ROOM)
 abbrev pub isUnsound : State → Case
@@ -85,18 +86,18 @@ misshapen = refl
 abbrev pub ofShape : List Case
 ofShape =
     -- the free index from the half's first word to one past its last; the smallest heap
-    isSound (zeros 11 A 1) 0 (zeros 11 B 6)
-    ∷ isSound (zeros 11 A 6) 0 (zeros 11 B 6)
-    ∷ isSound (zeros 11 B 6) 0 (zeros 11 A 1)
-    ∷ isSound (zeros 11 B 11) 0 (zeros 11 A 1)
-    ∷ isSound (zeros 3 A 1) 0 (zeros 3 B 2)
+    isSound (zeros 11 A 1) (counted 0 0 0) (zeros 11 B 6)
+    ∷ isSound (zeros 11 A 6) (counted 0 0 0) (zeros 11 B 6)
+    ∷ isSound (zeros 11 B 6) (counted 0 0 0) (zeros 11 A 1)
+    ∷ isSound (zeros 11 B 11) (counted 0 0 0) (zeros 11 A 1)
+    ∷ isSound (zeros 3 A 1) (counted 0 0 0) (zeros 3 B 2)
     ∷ map isMisshapen misshapes
 
 -- word 0, the idle half, the free words and the tiling
 abbrev pub ofWords : List Case
 ofWords =
-    isSound (rootA 4) 2 (oneB 2 24)
-    ∷ isSound (state B 10 twoB (24 ∷ [])) 2 (oneA 2 4)
+    isSound (rootA 4) (counted 2 1 2) (oneB 2 24)
+    ∷ isSound (state B 10 twoB (24 ∷ [])) (counted 2 1 2) (oneA 2 4)
     ∷ map isUnsound
     -- word 0 is 0
     (wordA 0 1 ∷ wordB 0 1
@@ -112,10 +113,10 @@ ofWords =
 -- each root is odd, 0, a code word, or the address of a header of that tiling
 abbrev pub ofRoots : List Case
 ofRoots =
-    isSound (rootA 5) 0 (state B 6 (replicate 11 0) (5 ∷ []))
-    ∷ isSound (rootA 0) 0 (zeros 11 B 6)
-    ∷ isSound (rootA 16_777_218) 0 (state B 6 (replicate 11 0) (16_777_218 ∷ []))
-    ∷ isSound (rootA 12) 2 (oneB 2 1)
+    isSound (rootA 5) (counted 0 0 0) (state B 6 (replicate 11 0) (5 ∷ []))
+    ∷ isSound (rootA 0) (counted 0 0 0) (zeros 11 B 6)
+    ∷ isSound (rootA 16_777_218) (counted 0 0 0) (state B 6 (replicate 11 0) (16_777_218 ∷ []))
+    ∷ isSound (rootA 12) (counted 2 1 1) (oneB 2 1)
     -- no header of the tiling, although it names an object: word 2, 4, has the shape of one with two fields
     ∷ unchanged (rootA 8) (Ask.Inspect 0 ∷ Ask.Check ∷ Ask.Collect ∷ [])
     (holdsTraced 2 ∷ gives 0 ∷ refused 8 ∷ [])
@@ -133,22 +134,22 @@ ofRoots =
 abbrev pub ofFields : List Case
 ofFields =
     -- of a live one
-    isSound (wordA 2 1) 2 (oneB 2 1)
-    ∷ isSound (wordA 2 0) 2 (oneB 2 0)
-    ∷ isSound (wordA 2 16_777_216) 2 (oneB 2 16_777_216)
-    ∷ isSound (wordA 2 12) 4 (state B 10 (replicate 6 0 ++ 2 ∷ 32 ∷ 2 ∷ 1 ∷ 0 ∷ []) (24 ∷ []))
+    isSound (wordA 2 1) (counted 2 1 1) (oneB 2 1)
+    ∷ isSound (wordA 2 0) (counted 2 1 1) (oneB 2 0)
+    ∷ isSound (wordA 2 16_777_216) (counted 2 1 1) (oneB 2 16_777_216)
+    ∷ isSound (wordA 2 12) (counted 4 2 2) (state B 10 (replicate 6 0 ++ 2 ∷ 32 ∷ 2 ∷ 1 ∷ 0 ∷ []) (24 ∷ []))
     ∷ map isUnsound (wordA 2 6 ∷ wordA 2 8 ∷ wordA 2 20 ∷ wordA 2 24 ∷ wordA 2 16_777_214 ∷ [])
     -- of garbage
-    ++ isSound (wordA 4 12) 2 (oneB 2 24)
-    ∷ isSound (wordA 4 0xfffffffe) 2 (oneB 2 24)
+    ++ isSound (wordA 4 12) (counted 2 1 2) (oneB 2 24)
+    ∷ isSound (wordA 4 0xfffffffe) (counted 2 1 2) (oneB 2 24)
     ∷ map isUnsound (wordA 4 6 ∷ wordA 4 8 ∷ wordA 4 20 ∷ wordA 4 24 ∷ [])
     -- the last field alone
     ++ isUnsound (state A 4 (0 ∷ 4 ∷ 1 ∷ 6 ∷ replicate 7 0) (4 ∷ []))
     -- raw words may look like addresses, in garbage and live
-    ∷ isSound (rawA 6 4) 2 (oneB 2 24)
-    ∷ isSound (rawA 24 4) 2 (oneB 2 24)
-    ∷ isSound (rawA 6 12) 2 (oneB 0x80000002 6)
-    ∷ isSound (rawA 4 12) 2 (oneB 0x80000002 4)
+    ∷ isSound (rawA 6 4) (counted 2 1 2) (oneB 2 24)
+    ∷ isSound (rawA 24 4) (counted 2 1 2) (oneB 2 24)
+    ∷ isSound (rawA 6 12) (counted 2 1 1) (oneB 0x80000002 6)
+    ∷ isSound (rawA 4 12) (counted 2 1 1) (oneB 0x80000002 4)
     ∷ []
 
 abbrev pub judgements : List Case

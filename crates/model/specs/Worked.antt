@@ -1,6 +1,6 @@
 -- The worked heaps of document 01, P1 to P10 and the Fresh cases: one table and one statement, computed by
 -- the checker. A case is a run of session calls, with its answers in the paper's numbers. CodeWords, TextCases,
--- Unnamed, Unsound and EachCall have further tables of cases, and Edges has the limits. The program `cases` runs
+-- Counting, Unnamed, Unsound and EachCall have further tables of cases, and Edges has the limits. The program `cases` runs
 -- every case of these tables but those of Edges.
 use Prim.Native.Nat.{ℕ, _+_, _*_}
 use mathlib.Core.Path.{_≡_, refl}
@@ -21,8 +21,8 @@ use Rattle.model.specs.Shape.{badShapeOf}
 use Rattle.model.specs.Objects.{names}
 use Rattle.model.specs.Discovery.{mem, visit, visits, packed, wordsBefore, found}
 use Rattle.model.specs.Soundness.{tiles, headersFrom, isValue, fieldsAreValues, sound}
-use Rattle.model.specs.Collection.{wordLeads, orderAt, live, rename, copied}
-use Rattle.model.specs.Answers.{Outcome, refuse, tells, tellsInteger, told}
+use Rattle.model.specs.Collection.{addressesIn, wordLeads, orderAt, live, addressesAmong, counts, rename, copied}
+use Rattle.model.specs.Answers.{Outcome, refuse, tells, tellsInteger, tellsCounts, told}
 use Rattle.model.specs.Changes.{placed, laid, planted}
 use Rattle.model.specs.Calls.{fresh, freshRecord, check, collect, allocate, setInteger, setNull, setCode, copy, load, store}
 use Rattle.model.specs.Calls.{rawRead, rawWrite, same, inspect, wordForm, write, read}
@@ -64,8 +64,8 @@ expected c = record { answered = c .answered; texts = c .texts; left = c .left }
 -- whoever unfolds it unfolds all that a call computes with
 unfoldable pub ran : Case → Result
 unfolding tuple untag badShapeOf names mem visit visits packed wordsBefore found
-    tiles headersFrom isValue fieldsAreValues sound wordLeads orderAt live rename copied
-    refuse placed fresh check collect allocate setInteger setNull setCode copy load store rawRead rawWrite same inspect
+    tiles headersFrom isValue fieldsAreValues sound addressesIn wordLeads orderAt live addressesAmong counts rename
+    copied refuse placed fresh check collect allocate setInteger setNull setCode copy load store rawRead rawWrite same inspect
     wordForm digitsTo joined enclosed tuplePieces spelled write parsedFrom count forestWords laid planted read step replies after
 ran c = record {
   answered = map told (answers (machine tuple) (c .calls) (c .start));
@@ -75,7 +75,7 @@ ran c = record {
 
 -- ---- the words that cases are written in
 
--- "done", refusal k, and an answer with the value v: live words, a raw word, or 1 for sound and for yes
+-- "done", refusal k, and an answer with the value v: a raw word, or 1 for sound and for yes
 abbrev pub done : Told
 done = tells 0 0 0
 
@@ -84,6 +84,10 @@ refused k = tells k 0 0
 
 abbrev pub gives : ℕ → Told
 gives v = tells 0 0 v
+
+-- collect: live words, live objects, addresses met
+abbrev pub counted : ℕ → ℕ → ℕ → Told
+counted l n a = tellsCounts (record { live = l; objects = n; addresses = a })
 
 -- inspect: null, the integer v, a traced or an untraced object with n fields, the code word w
 abbrev pub holdsNull : Told
@@ -163,22 +167,22 @@ cases =
     ∷ case oneNull
     (Ask.Allocate Untraced 2 0 ∷ Ask.RawWrite 0 0 (bytes 104 101 108 108) ∷ Ask.RawWrite 0 1 (bytes 111 0 0 0)
     ∷ Ask.Collect ∷ Ask.RawRead 0 0 ∷ Ask.Inspect 0 ∷ [])
-    (done ∷ done ∷ done ∷ gives 3 ∷ gives 0x6c6c6568 ∷ holdsUntraced 2 ∷ [])
+    (done ∷ done ∷ done ∷ counted 3 1 1 ∷ gives 0x6c6c6568 ∷ holdsUntraced 2 ∷ [])
     (state B 12 (replicate 9 0 ++ 0x80000004 ∷ 0x6c6c6568 ∷ 0x0000006f ∷ replicate 5 0) (36 ∷ []))
     -- its second word looks like a code word: a root that held it would hold one
-    ∷ case (empty 0x6c6c6568) (Ask.Inspect 0 ∷ Ask.Collect ∷ []) (holdsCode 0x6c6c6568 ∷ gives 0 ∷ [])
+    ∷ case (empty 0x6c6c6568) (Ask.Inspect 0 ∷ Ask.Collect ∷ []) (holdsCode 0x6c6c6568 ∷ counted 0 0 0 ∷ [])
     (state B 9 blank (0x6c6c6568 ∷ []))
     -- P5, P6, P7, P8
-    ∷ one (p5With 24 12) Ask.Collect (gives 4) (state B 13 p5′ (36 ∷ 40 ∷ []))
+    ∷ one (p5With 24 12) Ask.Collect (counted 4 2 3) (state B 13 p5′ (36 ∷ 40 ∷ []))
     ∷ one (p5With 24 12) (Ask.Allocate Traced 3 1) done (state B 17 (set p5′ 13 6) (36 ∷ 52 ∷ []))
     ∷ one (p5With 24 12) (Ask.Allocate Traced 4 1) (refused 9) (state B 13 p5′ (36 ∷ 40 ∷ []))
-    ∷ one (p5With 12 12) Ask.Collect (gives 3)
+    ∷ one (p5With 12 12) Ask.Collect (counted 3 1 3)
     (state B 12 (replicate 9 0 ++ 4 ∷ 36 ∷ 21 ∷ replicate 5 0) (36 ∷ 36 ∷ []))
     -- P9: 14 and 16 name no object
     ∷ unchanged (p5With 14 12) (Ask.Collect ∷ Ask.Inspect 0 ∷ []) (refused 8 ∷ refused 5 ∷ [])
     ∷ unchanged (p5With 16 12) (Ask.Collect ∷ Ask.Inspect 0 ∷ []) (refused 8 ∷ refused 5 ∷ [])
     -- P10: no roots
-    ∷ one (state A 7 p5 []) Ask.Collect (gives 0) (state B 9 blank [])
+    ∷ one (state A 7 p5 []) Ask.Collect (counted 0 0 0) (state B 9 blank [])
     -- Fresh: n = 7 fits; 8 and the largest n are ROOM; one more is COUNT
     ∷ one freshly (Ask.Allocate Traced 7 0) done (state A 9 (set blank 1 14) (4 ∷ []))
     ∷ one freshly (Ask.Allocate Traced 8 0) (refused 9) (state B 9 blank (0 ∷ []))

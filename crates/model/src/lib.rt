@@ -59,11 +59,21 @@ pub enum Refusal {
     Text,
 }
 
+// What a collection counts.
+pub struct Counts {
+    // L: the words of the reachable objects.
+    pub live: u32,
+    // The reachable objects.
+    pub objects: u32,
+    // The object addresses in roots and in fields of reachable traced objects, each as often as it stands there.
+    pub addresses: u32,
+}
+
 // What a call answers.
 pub enum Answer {
     Done,
-    // Collect: the words of the reachable objects.
-    Live(u32),
+    // Collect.
+    Live(Counts),
     Sound,
     Unsound,
     // Same.
@@ -107,6 +117,9 @@ pub struct Told {
     pub value: u32,
     // The bytes of a text that was written, else 0. There may be more of them than 32 bits hold.
     pub length: usize,
+    // Of a collection: the live objects, and the object addresses met; else 0.
+    pub objects: u32,
+    pub addresses: u32,
 }
 
 // A session call. Roots are named by number.

@@ -3,6 +3,7 @@ ghost use mathlib.Core.Path.{_≡_};
 ghost use Rattle.model.specs.declared.Answer.the-variants as Says;
 ghost use Rattle.model.specs.Answers as Answers;
 use model::Answer;
+use model::Counts;
 use model::Kind;
 use model::Refusal;
 use model::Told;
@@ -28,8 +29,8 @@ pub fn number(refusal: Refusal) -> u32
     }
 }
 
-// Numbers put together, of an answer that is neither an integer nor a text's length: the refusal's or 0, what
-// the root of an inspect holds, and the number that the answer carries.
+// Numbers put together, of an answer that carries one number of 32 bits without a sign or none: the refusal's
+// or 0, what the root of an inspect holds, and the number that the answer carries.
 pub fn tells(refusal: u32, holds: u32, value: u32) -> Told
     ensures { λ r. ⌜ r ≡ Answers.tells refusal holds value ⌝ }
 {
@@ -39,6 +40,8 @@ pub fn tells(refusal: u32, holds: u32, value: u32) -> Told
         integer: 0,
         value: value,
         length: 0,
+        objects: 0,
+        addresses: 0,
     }
 }
 
@@ -52,6 +55,8 @@ pub fn integer(value: i32) -> Told
         integer: value,
         value: 0,
         length: 0,
+        objects: 0,
+        addresses: 0,
     }
 }
 
@@ -82,6 +87,23 @@ pub fn written(length: usize) -> Told
         integer: 0,
         value: 0,
         length: length,
+        objects: 0,
+        addresses: 0,
+    }
+}
+
+// The numbers of a collection.
+pub fn live(counts: Counts) -> Told
+    ensures { λ r. ⌜ r ≡ Answers.told (Says.Live counts) ⌝ }
+{
+    Told {
+        refusal: 0,
+        holds: 0,
+        integer: 0,
+        value: counts.live,
+        length: 0,
+        objects: counts.objects,
+        addresses: counts.addresses,
     }
 }
 
@@ -90,7 +112,7 @@ pub fn told(answer: Answer) -> Told
 {
     match answer {
         Answer::Done => tells(0, 0, 0),
-        Answer::Live(live) => tells(0, 0, live),
+        Answer::Live(counts) => live(counts),
         Answer::Sound => tells(0, 0, 1),
         Answer::Unsound => tells(0, 0, 0),
         Answer::Yes => tells(0, 0, 1),

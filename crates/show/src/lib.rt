@@ -53,7 +53,21 @@ fn wide(value: i32) -> i64 {
     value as i64
 }
 
-// Refusal, what the root holds, integer or value: "0/1/-1" is the integer -1.
+// The live objects and the addresses met of a collection, if there are any.
+fn counts(objects: u32, addresses: u32) {
+    if objects == 0 {
+        if addresses == 0 {
+            return;
+        }
+    }
+    text(b"/");
+    number(objects);
+    text(b"/");
+    number(addresses);
+}
+
+// Refusal, what the root holds, integer or value, and what else a collection counts: "0/1/-1" is the integer
+// -1, "0/0/4/2/3" is P5's collection.
 pub fn told(told: Told) {
     number(told.refusal);
     text(b"/");
@@ -64,6 +78,7 @@ pub fn told(told: Told) {
         return;
     }
     number(told.value);
+    counts(told.objects, told.addresses);
 }
 
 // Each word behind a space.

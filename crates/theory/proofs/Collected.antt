@@ -8,13 +8,15 @@ use mathlib.Core.List.{List, map}
 use lib.ListN.{length, getD, replicate, length-map, length-replicate, getD-replicate}
 use Rattle.model.specs.declared.Half.{Half}
 use Rattle.model.specs.declared.Half.the-variants.{A, B}
-use Rattle.model.specs.Collection.{Cell, still, fieldCell, build, filled, cells, order, live, rename, settle, copied}
+use Rattle.model.specs.Collection.{Cell, still, fieldCell, build, filled, cells, order, live, counts, rename, settle, copied}
 use Rattle.model.specs.Collection.{collected}
 use Rattle.model.specs.Demand2 as D
 use Rattle.model.specs.Discovery.{packed, wordsBefore}
 use Rattle.model.specs.Headers.{Layout}
+use Rattle.model.specs.Limits.{maxHalf, maxRoots}
 use Rattle.model.specs.Objects.{kind, fieldCount, size, fieldWords}
 use Rattle.model.specs.Words.{State, at, halfWordsOf, halfWords, other, firstOf, firstWord, otherFirst, free}
+use Rattle.theory.proofs.Counting.{words-most, passed-most, all-met}
 use Rattle.theory.proofs.Halves.{other-other, build-length, build-new, build-old, filled-length, filled-in}
 use Rattle.theory.proofs.Halves.{filled-out}
 use Rattle.theory.proofs.Lists.{getD-map}
@@ -41,6 +43,20 @@ module _ (Y : Layout) (s : State) (h : SoundTests Y s) where
   pub live-is : live Y s ≡ length (packed (cells Y (s .heap)) (order Y s))
   unfolding live
   live-is = refl
+
+  -- no more addresses than roots and live words
+  pub addresses-few : counts Y s .addresses ≤ maxRoots + maxHalf
+  unfolding counts
+  addresses-few =
+      omega (
+        arith,
+        words-most Y (s .roots),
+        all-met Y (s .heap) (order Y s) (length cs) (omega arith),
+        passed-most Y (s .heap) (order Y s) (length cs),
+        order-fits Y s h,
+        h .shape .few,
+        h .shape .small,
+      )
 
   ws-length : length ws ≡ length cs
   ws-length = length-map cs (settle Y (s .heap) (order Y s) (otherFirst s))

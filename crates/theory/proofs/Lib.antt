@@ -21,6 +21,7 @@ pub mod Packed
 pub mod Discovery
 pub mod Breadth
 pub mod DiscoveryAlike
+pub mod Counting
 -- SHAPE, objects, tilings, soundness; the conditions and their tests
 pub mod Shape
 pub mod Objects

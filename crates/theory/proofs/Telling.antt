@@ -46,7 +46,7 @@ refusalOf n =
 
 -- what the numbers of a call say, where it is not refused
 abbrev pub own : Call → Told → Answer
-own Ask.Collect t = Says.Live (t .value)
+own Ask.Collect t = Says.Live (record { live = t .value; objects = t .objects; addresses = t .addresses })
 own Ask.Check t = cond (eqb (t .value) 1) Says.Sound Says.Unsound
 own (Ask.Allocate k n r) t = Says.Done
 own (Ask.SetInteger r v) t = Says.Done
@@ -68,12 +68,12 @@ own (Ask.Read r) t = Says.Done
 abbrev pub heard : Call → Told → Answer
 heard c t = cond (eqb (t .refusal) 0) (own c t) (Says.Refused (refusalOf (t .refusal)))
 
--- refusal and value are enough, but for inspect and write
+-- refusal and value are enough, but for collect, inspect and write
 abbrev pub Simple : Call → Type 0
-Simple c = ((r : ℕ) → c ≡ Ask.Inspect r → ⊥) × ((r : ℕ) → c ≡ Ask.Write r → ⊥)
+Simple c = (c ≡ Ask.Collect → ⊥) × ((r : ℕ) → c ≡ Ask.Inspect r → ⊥) × ((r : ℕ) → c ≡ Ask.Write r → ⊥)
 
 pub plain-heard : (c : Call) → Simple c → (t : Told) → heard c t ≡ heard c (tells (t .refusal) 0 (t .value))
-plain-heard Ask.Collect n t = refl
+plain-heard Ask.Collect n t = absurd (n .0 refl)
 plain-heard Ask.Check n t = refl
 plain-heard (Ask.Allocate k m r) n t = refl
 plain-heard (Ask.SetInteger r v) n t = refl
@@ -85,8 +85,8 @@ plain-heard (Ask.Store r f from) n t = refl
 plain-heard (Ask.RawRead r f) n t = refl
 plain-heard (Ask.RawWrite r f x) n t = refl
 plain-heard (Ask.Same r q) n t = refl
-plain-heard (Ask.Inspect r) n t = absurd (n .0 r refl)
-plain-heard (Ask.Write r) n t = absurd (n .1 r refl)
+plain-heard (Ask.Inspect r) n t = absurd (n .1 r refl)
+plain-heard (Ask.Write r) n t = absurd (n .2 r refl)
 plain-heard (Ask.Read r) n t = refl
 
 -- a number is that of one refusal
@@ -208,7 +208,7 @@ word-back H p f = number-back (leb (length (shown H p)) f) Why.Field (at (shown 
 apart : (c : Call) (a b : Answer) → heard c (told a) ≡ a → heard c (told b) ≡ b → told a ≡ told b → a ≡ b
 apart c a b e f q = sym e ∙ ap (heard c) q ∙ f
 
--- of refusal and value alone, but for inspect and write
+-- of refusal and value alone, but for collect, inspect and write
 pub apart-by-two : (c : Call) (a b : Answer) → Simple c → heard c (told a) ≡ a
     → heard c (told b) ≡ b
     → told a .refusal ≡ told b .refusal → told a .value ≡ told b .value → a ≡ b

@@ -19,7 +19,7 @@ use Rattle.model.specs.Headers.{Layout}
 use Rattle.model.specs.Shape.{badShape}
 use Rattle.model.specs.Objects.{index, kind, fieldCount, names}
 use Rattle.model.specs.Soundness.{sound}
-use Rattle.model.specs.Collection.{orderAt, live, copied, collected}
+use Rattle.model.specs.Collection.{orderAt, live, counts, copied, collected}
 use Rattle.model.specs.Answers.{Outcome, says, refuse}
 use Rattle.model.specs.Admission.{noRoots, onRoots}
 use Rattle.model.specs.Changes.{rootWord, fits, placed}
@@ -91,7 +91,7 @@ module _ (Y : Layout) (t : List ℕ) (s : State) where
 
   step-lends : (c : Call) → seesText c ≡ false → Lends t (step Y c (withText t s)) (step Y c s)
   unfolding step Calls.collect Calls.check Calls.setInteger Calls.setNull Calls.setCode Calls.copy Calls.load Calls.store
-      Calls.rawRead Calls.rawWrite Calls.same sound orderAt live copied
+      Calls.rawRead Calls.rawWrite Calls.same sound orderAt live counts copied
   step-lends Ask.Collect e = on-roots [] (past (not (sound Y s)) Why.Damaged s (lends refl))
   step-lends Ask.Check e = on-roots [] (lends refl)
   step-lends (Ask.Allocate k n r) e = allocate-lends k n r

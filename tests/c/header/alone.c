@@ -6,10 +6,11 @@ int uses_every_inline_function(phachunoi_heap *h);
 int uses_every_inline_function(phachunoi_heap *h) {
   int yes = 0;
   uint32_t number = 0;
+  phachunoi_counts counts = {0, 0, 0};
   size_t length = 0;
   char text[8];
   phachunoi_window window = phachunoi_heap_open(h, 0);
-  uint32_t sum = phachunoi_heap_check(h, &yes) + phachunoi_heap_collect(h, &number);
+  uint32_t sum = phachunoi_heap_check(h, &yes) + phachunoi_heap_collect(h, &counts);
   sum += phachunoi_heap_allocate_traced(h, 1, 0) + phachunoi_heap_allocate_untraced(h, 1, 0);
   sum += phachunoi_heap_set_integer(h, 0, PHACHUNOI_INTEGER_MIN) + phachunoi_heap_set_null(h, 0);
   sum += phachunoi_heap_set_code(h, 0, PHACHUNOI_CODE_FLOOR);

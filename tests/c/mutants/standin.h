@@ -8,7 +8,7 @@
 #define MUTANT 0
 #endif
 #define BUG(number) (MUTANT == (number))
-/* MUTANTS 126 */
+/* MUTANTS 140 */
 
 typedef struct phachunoi_record record_t;
 struct view { /* what a call was lent */
@@ -29,6 +29,6 @@ int shape_ok(const struct view *v);
 int is_code(uint32_t word);
 int names(const struct view *v, uint32_t word);
 int sound(const struct view *v);
-size_t collect(struct view *v, size_t dead); /* `dead` is a root that does not count, or none */
+phachunoi_counts collect(struct view *v, size_t dead); /* `dead` is a root that does not count, or none */
 
 #endif

@@ -65,7 +65,7 @@ same-length-2 c = search needs
 
 returns-2 : tie.Need-returns-2
 returns-2 c =
-    let done = c .before .before .before .before .before .before in
+    let done = c .before .before .before .before .before .before .before in
     let sound = done .before .before .before in
     let asked = judged (sound .before) in
     let q = asked .is-sound .ensures in

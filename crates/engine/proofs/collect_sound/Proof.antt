@@ -1,7 +1,10 @@
 -- `engine::collect_sound` meets its contract: the evacuation of a sound heap leaves what `collected` says.
+use Prim.Native.Nat.{_+_, _≤_}
 use native.Mathlib.Omega.{arith}
+use Rattle.model.specs.Limits.{maxHalf, maxRoots}
+use Rattle.engine_moving.specs.Moving.{addressesMet}
 use Rattle.theory.proofs.Headers.{tuple-lawful}
-use Rattle.engine.proofs.Contract.{shape, old-low, may-evacuate, end-low, end-high, collect-is}
+use Rattle.engine.proofs.Contract.{shape, old-low, may-evacuate, end-low, end-high, met-few, collect-is}
 use borrow.Author.Needs.{needs}
 use Rattle.engine.proofs.collect_sound.Statement.{statement}
 use Rattle.engine.proofs.collect_sound.Tie as tie
@@ -24,7 +27,7 @@ abbrev there : tie.After-evacuate-arg2 → tie.After-first-of2
 there c = c .before .before .before .before
 
 abbrev done : tie.After-struct-known4 → tie.After-evacuate
-done c = c .before .before .before .before .before .before
+done c = c .before .before .before .before .before .before .before .before
 
 half-words-requires : tie.Need-half-words-requires
 half-words-requires c κs =
@@ -56,12 +59,20 @@ evacuate-requires c κs =
     may-evacuate _ (tuple-lawful .forwards) _ (start (halved based) .pre) _ _ _ _ (halved based .half-words .ensures)
     (based .before .before .other-half .ensures) (based .before .first-of .ensures) (based .first-of2 .ensures)
 
+-- what was met is within the limits
+few : (c : tie.After-struct-known4) → addressesMet (done c .evacuate .result .tally) ≤ maxRoots + maxHalf
+few c =
+    let based = there (done c .before) in
+    met-few _ (tuple-lawful .forwards) _ (start (halved based) .pre) _ _ _ _ (halved based .half-words .ensures)
+    (based .before .before .other-half .ensures) (based .before .first-of .ensures) (based .first-of2 .ensures)
+    _ _ _ _ (done c .evacuate .ensures)
+
 sub-live : tie.Need-sub-live
 sub-live c =
     let based = there (done c .before) in
     end-low _ (tuple-lawful .forwards) _ (start (halved based) .pre) _ _ _ _ (halved based .half-words .ensures)
     (based .before .before .other-half .ensures) (based .before .first-of .ensures) (based .first-of2 .ensures)
-    _ _ _ (done c .evacuate .ensures)
+    _ _ _ _ (done c .evacuate .ensures)
 
 cast-live : tie.Need-cast-live
 cast-live c =
@@ -70,8 +81,17 @@ cast-live c =
       arith,
       end-high _ (tuple-lawful .forwards) _ (start (halved based) .pre) _ _ _ _ (halved based .half-words .ensures)
           (based .before .before .other-half .ensures) (based .before .first-of .ensures) (based .first-of2 .ensures)
-          _ _ _ (done c .evacuate .ensures),
+          _ _ _ _ (done c .evacuate .ensures),
     )
+
+cast-objects : tie.Need-cast-objects
+cast-objects c = omega (arith, few (c .before))
+
+add-addresses : tie.Need-add-addresses
+add-addresses c = omega (arith, few (c .before .before))
+
+cast-addresses : tie.Need-cast-addresses
+cast-addresses c = omega (arith, few (c .before .before))
 
 same-length : tie.Need-same-length
 same-length c = search needs
@@ -81,10 +101,11 @@ same-length-2 c = search needs
 
 returns : tie.Need-returns
 returns c =
-    let based = there (done c .before) in
+    let all = done (c .before .before) in
+    let based = there (all .before) in
     collect-is _ (tuple-lawful .forwards) _ (start (halved based) .pre) _ _ _ _ (halved based .half-words .ensures)
     (based .before .before .other-half .ensures) (based .before .first-of .ensures) (based .first-of2 .ensures)
-    _ _ _ (done c .evacuate .ensures)
+    _ _ _ _ (all .evacuate .ensures)
 
 pub collect-sound-spec : {M : Type 1} → statement M
 collect-sound-spec =
@@ -98,6 +119,9 @@ collect-sound-spec =
     evacuate-requires
     sub-live
     cast-live
+    cast-objects
+    add-addresses
+    cast-addresses
     same-length
     same-length-2
     returns)

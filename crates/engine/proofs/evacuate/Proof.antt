@@ -11,7 +11,7 @@ use Rattle.runs.proofs.clear.Reads as clear-reads
 
 -- the roots are visited
 abbrev visited : tie.After-pass-objects-arg → tie.After-visit-roots
-visited c = c .before .before .before .before .before
+visited c = c .before .before .before .before .before .before .before
 
 visit-roots-requires : tie.Need-visit-roots-requires
 visit-roots-requires c κs = search needs
@@ -19,7 +19,7 @@ visit-roots-requires c κs = search needs
 pass-objects-requires : tie.Need-pass-objects-requires
 pass-objects-requires c κs =
     let start = visited c .before .before .before .before .before in
-    scan-safe _ _ _ _ _ _ _ _ _ (visited c .visit-roots .ensures) (start .pre)
+    scan-safe _ _ _ _ _ _ _ _ _ _ (visited c .visit-roots .ensures) (start .pre)
 
 clear-requires : tie.Need-clear-requires
 clear-requires c κs = search needs
@@ -34,7 +34,7 @@ returns : tie.Need-returns
 returns c =
     let cleared = c .before .before in
     let passed = cleared .before .before .before .before in
-    evacuated-is _ _ _ _ _ _ _ _ _ (visited (passed .before) .visit-roots .ensures) _ _ _
+    evacuated-is _ _ _ _ _ _ _ _ _ _ (visited (passed .before) .visit-roots .ensures) _ _ _ _
     (passed .pass-objects .ensures) (cleared .clear .ensures)
 
 pub evacuate-spec : {M : Type 1} → statement M

@@ -24,10 +24,10 @@ abbrev sized : tie.After-is-traced → tie.After-size-of
 sized c = c .before
 
 mul-header : tie.Need-mul-header
-mul-header c = omega (arith, object-within _ _ _ _ (c .before .pre))
+mul-header c = omega (arith, object-within _ _ _ _ _ (c .before .pre))
 
 slice-read-header : tie.Need-slice-read-header
-slice-read-header c = object-within _ _ _ _ (c .before .before .pre)
+slice-read-header c = object-within _ _ _ _ _ (c .before .before .pre)
 
 count-of-requires : tie.Need-count-of-requires
 count-of-requires c κs = search needs
@@ -42,7 +42,7 @@ add-next : tie.Need-add-next
 add-next c =
     omega (
       arith,
-      object-within _ _ _ _ (start (counted c) .pre),
+      object-within _ _ _ _ _ (start (counted c) .pre),
       counted c .count-of .ensures,
       c .size-of .ensures,
     )
@@ -54,7 +54,7 @@ pass-fields-requires : tie.Need-pass-fields-requires
 pass-fields-requires c κs =
     let tested = c .before .before in
     let n = counted (sized tested) in
-    fields-may _ _ _ _ (start n .pre) _ (n .count-of .ensures .0)
+    fields-may _ _ _ _ _ (start n .pre) _ (n .count-of .ensures .0)
     (sym (tested .is-traced .ensures) ∙ c .before .if1 .taken)
 
 same-length : tie.Need-same-length
@@ -62,18 +62,19 @@ same-length c = search needs
 
 returns : tie.Need-returns
 returns c =
-    let traced = c .before .before .before .before in
+    let done = c .before .before .before .before in
+    let traced = done .before .before in
     let tested = traced .before in
     let n = counted (sized tested) in
-    traced-is _ _ _ _ (start n .pre) _ (n .count-of .ensures .0)
-    (sym (tested .is-traced .ensures) ∙ traced .if1 .taken) _ _ _ (c .before .before .pass-fields .ensures)
+    traced-is _ _ _ _ _ (start n .pre) _ (n .count-of .ensures .0)
+    (sym (tested .is-traced .ensures) ∙ traced .if1 .taken) _ _ _ _ (done .pass-fields .ensures)
     (omega (arith, sized tested .size-of .ensures, n .count-of .ensures .0))
 
 returns-2 : tie.Need-returns-2
 returns-2 c =
     let tested = c .before in
     let n = counted (sized tested) in
-    untraced-is _ _ _ _ (start n .pre) (sym (tested .is-traced .ensures) ∙ c .if1 .left)
+    untraced-is _ _ _ _ _ (start n .pre) (sym (tested .is-traced .ensures) ∙ c .if1 .left)
     _ (omega (arith, sized tested .size-of .ensures, n .count-of .ensures .0))
 
 pub pass-object-spec : {M : Type 1} → statement M
