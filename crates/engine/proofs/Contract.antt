@@ -77,12 +77,19 @@ module _ (Y : Layout) (K : Marks Y) (s : State) (e : sound Y s ≡ true) where
       abbrev left : Half → State
       left x = withFree x end (withRoots rs′ (withHeap h′ s))
 
-      numbers-are : record { live = end - new; objects = m .copied; addresses = m .copied + m .found } ≡ counts Y s
-      unfolding counts
-      numbers-are = λ k. record { live = live-met k; objects = objects-met k; addresses = all-addresses k }
+      -- from what the three numbers come to
+      module _ (live′ objects′ addresses′ : ℕ) (l : live′ ≡ end - new) (c : objects′ ≡ m .copied)
+          (a : addresses′ ≡ addressesMet m) where
+        numbers-are : record { live = live′; objects = objects′; addresses = addresses′ } ≡ counts Y s
+        unfolding counts
+        numbers-are = λ k. record {
+          live = (l ∙ live-met) k;
+          objects = (c ∙ objects-met) k;
+          addresses = (a ∙ all-addresses) k;
+        }
 
-      pub collect-is : says (Says.Live (record { live = end - new; objects = m .copied; addresses = m .copied + m .found })) (left half)
-          ≡ says (Says.Live (counts Y s)) (collected Y s)
-      collect-is =
-          ap (λ (x : Counts). says (Says.Live x) (left half)) numbers-are
-          ∙ ap (λ (x : State). says (Says.Live (counts Y s)) x) (ap left i ∙ ap (movedTo s) there ∙ ended-is Y K s v)
+        pub collect-is : says (Says.Live (record { live = live′; objects = objects′; addresses = addresses′ })) (left half)
+            ≡ says (Says.Live (counts Y s)) (collected Y s)
+        collect-is =
+            ap (λ (x : Counts). says (Says.Live x) (left half)) numbers-are
+            ∙ ap (λ (x : State). says (Says.Live (counts Y s)) x) (ap left i ∙ ap (movedTo s) there ∙ ended-is Y K s v)

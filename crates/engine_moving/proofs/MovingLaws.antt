@@ -1,4 +1,4 @@
--- One object moved and one word renamed: each case of the two, and what they leave of the heap.
+-- One object moved, one word renamed, and what it led to counted: each case of the three, and what they leave.
 use Prim.Native.Nat.{ℕ, _+_, _≤_}
 use native.Mathlib.Omega.{arith}
 use native.Mathlib.Numerals.{add-one}
@@ -14,8 +14,19 @@ use Rattle.model.specs.Objects.{address, index, size}
 use Rattle.theory.proofs.Tests.{by-test}
 use Rattle.runs.specs.Runs.{copiedRun}
 use Rattle.runs.proofs.RunLaws.{copied-length, copied-front}
+use Rattle.engine_moving.specs.declared.Met.{Met}
 use Rattle.engine_moving.specs.declared.Met.the-variants.{Plain, Copied, Found}
-use Rattle.engine_moving.specs.Moving.{left, moved, relocated, renamed}
+use Rattle.engine_moving.specs.declared.Tally.{Tally}
+use Rattle.engine_moving.specs.Moving.{left, counted, moved, relocated, renamed}
+
+-- ---- what is counted, from its numbers
+
+module _ (t : Tally) (m : Met) (a b : ℕ) where
+  pub counted-copied : m ≡ Copied → a ≡ t .copied + 1 → b ≡ t .found → record { copied = a; found = b } ≡ counted t m
+  counted-copied e p q = (λ i. record { copied = p i; found = q i }) ∙ ap (counted t) (sym e)
+
+  pub counted-found : m ≡ Found → a ≡ t .copied → b ≡ t .found + 1 → record { copied = a; found = b } ≡ counted t m
+  counted-found e p q = (λ i. record { copied = p i; found = q i }) ∙ ap (counted t) (sym e)
 
 module _ (Y : Layout) where
   module _ (h : List ℕ) (i f : ℕ) where

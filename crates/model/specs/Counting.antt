@@ -7,7 +7,6 @@ use Rattle.model.specs.declared.Call.the-variants as Ask
 use Rattle.model.specs.declared.Counts.{Counts}
 use Rattle.model.specs.Words.{State}
 use Rattle.model.specs.Discovery.{mem, visit, visits, packed, found}
-use Rattle.model.specs.Answers.{tellsCounts}
 use Rattle.model.specs.Graph.{null, code, plain, object, traced, untraced, Graph, totalWords, graphOrder, objectsIn, objectsAmong}
 use Rattle.model.specs.Graph.{graphCounts}
 use Rattle.model.specs.Worked.{Case, one, expected, ran, state, p5}
@@ -26,23 +25,20 @@ shared′ =
     state B 24 (replicate 14 0 ++ 6 ∷ 84 ∷ 84 ∷ 16_777_220 ∷ 4 ∷ 0 ∷ 56 ∷ 0x80000004 ∷ 4 ∷ 8 ∷ replicate 3 0)
     (56 ∷ 0 ∷ 72 ∷ 16_777_216 ∷ [])
 
-abbrev pub sharedCounts : Counts
-sharedCounts = record { live = 10; objects = 3; addresses = 5 }
-
 abbrev pub countings : List Case
 countings =
     -- P5's heap with an address that two roots hold, null and an integer: three in the roots, one in a field
     one (state A 7 p5 (12 ∷ 12 ∷ 24 ∷ 0 ∷ 21 ∷ [])) Ask.Collect (Worked.counted 4 2 4)
     (state B 13 (replicate 9 0 ++ 4 ∷ 36 ∷ 21 ∷ 0 ∷ replicate 4 0) (36 ∷ 36 ∷ 48 ∷ 0 ∷ 21 ∷ []))
     -- two in the roots, two in the first object, one in the last
-    ∷ one shared Ask.Collect (tellsCounts sharedCounts) shared′
+    ∷ one shared Ask.Collect (Worked.counted 10 3 5) shared′
     ∷ []
 
 pub counted : map ran countings ≡ map expected countings
 unfolding ran
 counted = refl
 
--- the same objects as a graph, with these numbers
+-- the same objects as a graph, with the same numbers
 abbrev pub sharedGraph : Graph
 sharedGraph = record {
   objects =
@@ -51,6 +47,9 @@ sharedGraph = record {
   roots = object 0 ∷ plain null ∷ object 3 ∷ plain (code 16_777_216) ∷ [];
   text = [];
 }
+
+abbrev pub sharedCounts : Counts
+sharedCounts = record { live = 10; objects = 3; addresses = 5 }
 
 pub graphCounted : graphCounts sharedGraph ≡ sharedCounts
 unfolding graphCounts graphOrder totalWords objectsIn objectsAmong found visits visit mem packed

@@ -1,7 +1,7 @@
 -- The worked heaps of document 01, P1 to P10 and the Fresh cases: one table and one statement, computed by
 -- the checker. A case is a run of session calls, with its answers in the paper's numbers. CodeWords, TextCases,
--- Counting, Unnamed, Unsound and EachCall have further tables of cases, and Edges has the limits. The program `cases` runs
--- every case of these tables but those of Edges.
+-- Counting, Unnamed, Unsound and EachCall have further tables of cases, and Edges has the limits. The programs `cases`,
+-- `call_cases` and `text_cases` run every case of these tables but those of Edges.
 use Prim.Native.Nat.{ℕ, _+_, _*_}
 use mathlib.Core.Path.{_≡_, refl}
 use mathlib.Core.List.{List, [], _∷_, _++_, map}
@@ -22,7 +22,7 @@ use Rattle.model.specs.Objects.{names}
 use Rattle.model.specs.Discovery.{mem, visit, visits, packed, wordsBefore, found}
 use Rattle.model.specs.Soundness.{tiles, headersFrom, isValue, fieldsAreValues, sound}
 use Rattle.model.specs.Collection.{addressesIn, wordLeads, orderAt, live, addressesAmong, counts, rename, copied}
-use Rattle.model.specs.Answers.{Outcome, refuse, tells, tellsInteger, tellsCounts, told}
+use Rattle.model.specs.Answers.{Outcome, refuse, tells, tellsInteger, told}
 use Rattle.model.specs.Changes.{placed, laid, planted}
 use Rattle.model.specs.Calls.{fresh, freshRecord, check, collect, allocate, setInteger, setNull, setCode, copy, load, store}
 use Rattle.model.specs.Calls.{rawRead, rawWrite, same, inspect, wordForm, write, read}
@@ -87,7 +87,7 @@ gives v = tells 0 0 v
 
 -- collect: live words, live objects, addresses met
 abbrev pub counted : ℕ → ℕ → ℕ → Told
-counted l n a = tellsCounts (record { live = l; objects = n; addresses = a })
+counted l n a = record { refusal = 0; holds = 0; integer = pos 0; value = l; length = 0; objects = n; addresses = a }
 
 -- inspect: null, the integer v, a traced or an untraced object with n fields, the code word w
 abbrev pub holdsNull : Told

@@ -105,7 +105,7 @@ returns c =
     let based = there (all .before) in
     collect-is _ (tuple-lawful .forwards) _ (start (halved based) .pre) _ _ _ _ (halved based .half-words .ensures)
     (based .before .before .other-half .ensures) (based .before .first-of .ensures) (based .first-of2 .ensures)
-    _ _ _ _ (all .evacuate .ensures)
+    _ _ _ _ (all .evacuate .ensures) _ _ _ (omega arith) (omega arith) (omega arith)
 
 pub collect-sound-spec : {M : Type 1} → statement M
 collect-sound-spec =

@@ -1,6 +1,6 @@
 -- `engine_moving::count` meets its contract: a word that led to an object is one more of its sort.
-use mathlib.Core.Path.{sym, ap}
-use Rattle.engine_moving.specs.Moving.{counted}
+use native.Mathlib.Omega.{arith}
+use Rattle.engine_moving.proofs.MovingLaws.{counted-copied, counted-found}
 use borrow.Author.Needs.{needs}
 use Rattle.engine_moving.proofs.count.Statement.{statement}
 use Rattle.engine_moving.proofs.count.Tie as tie
@@ -26,10 +26,10 @@ returns : tie.Need-returns
 returns c = search needs
 
 returns-2 : tie.Need-returns-2
-returns-2 c = ap (counted (c .before .before .args .tally)) (sym (c .enum-told2 .given .1))
+returns-2 c = counted-copied _ _ _ _ (c .enum-told2 .given .1) (omega arith) (omega arith)
 
 returns-3 : tie.Need-returns-3
-returns-3 c = ap (counted (c .before .before .args .tally)) (sym (c .enum-told3 .given .1))
+returns-3 c = counted-found _ _ _ _ (c .enum-told3 .given .1) (omega arith) (omega arith)
 
 pub count-spec : {M : Type 1} → statement M
 count-spec =
