@@ -1,5 +1,5 @@
-// Every case of the definitions' tables in Unnamed, Unsound and EachCall, in their order, through the compiled
-// calls, a line for each as in `cases`.
+// Every case of the definitions' tables in Unnamed, Unsound and EachCall, in their order, through the
+// compiled calls, a line for each as in `cases`.
 mod judge;
 mod lowest;
 mod names;

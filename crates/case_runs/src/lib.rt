@@ -1,5 +1,5 @@
-// What the cases of `cases`, `call_cases` and `text_cases` go through: their calls through `step`, their lines,
-// and the heaps that several of them start from.
+// What the cases of `cases`, `call_cases` and `text_cases` go through: their calls through `step`, their
+// lines, and the heaps that several of them start from.
 pub mod calls;
 pub mod run;
 pub mod start;

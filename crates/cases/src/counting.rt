@@ -1,4 +1,4 @@
-// Counting::countings: what a collection counts, where addresses are shared and where words only look like them.
+// Counting::countings: what a collection counts, where addresses are shared and where words look like some.
 use case_runs::run;
 use case_runs::start;
 use model::Call;

@@ -31,8 +31,8 @@ pub fn check(heap: &mut [u32], roots: &mut [u32], record: &mut Record) -> Answer
     answered.answer
 }
 
-// Copies what the roots reach to the other half, and clears this one: the live words, or SHAPE or DAMAGED.
-// Every object may move; the roots and the record follow.
+// Copies what the roots reach to the other half, and clears this one: live words, live objects and addresses
+// met; or SHAPE or DAMAGED. Every object may move; the roots and the record follow.
 pub fn collect(heap: &mut [u32], roots: &mut [u32], record: &mut Record) -> Answer
     ensures { λ r. ⌜ thinOutcome r heap roots «record»
         ≡ Calls.collect Layouts.tuple (thinLent heap roots «record») ⌝ }

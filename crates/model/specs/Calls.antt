@@ -1,4 +1,4 @@
--- The calls, each with its refusals in their order. Document 01, "The calls" and "Refusals and their order"; document 02, Q-1, Q-2.
+-- The calls, each with its refusals in their order. Document 01, "The calls" and "Refusals and their order"; document 02, Q-1 to Q-3.
 -- SHAPE and ROOT come first in each but fresh, by `onRoots` of Admission. The session of the calls is in Sessions, the window
 -- in Window.
 use Prim.Native.Nat.{ℕ, _+_}

@@ -1,5 +1,5 @@
--- What a collection leaves, to the word. Document 01, the section of that name. No algorithm is said here: the order in which
--- objects are met, their copies end to end in that order, and every address renamed by it.
+-- What a collection leaves, to the word, and what it counts. Document 01, "Collection, to the word"; document 02, Q-3. No algorithm
+-- is said here: the order in which objects are met, their copies end to end in that order, and every address renamed by it.
 use Prim.Native.Nat.{ℕ, _+_, _-_}
 use mathlib.Core.Bool.{cond}
 use mathlib.Core.List.{List, [], _∷_, _++_, map}

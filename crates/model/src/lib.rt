@@ -65,7 +65,8 @@ pub struct Counts {
     pub live: u32,
     // The reachable objects.
     pub objects: u32,
-    // The object addresses in roots and in fields of reachable traced objects, each as often as it stands there.
+    // The object addresses in roots and in fields of reachable traced objects, each as often as it stands
+    // there.
     pub addresses: u32,
 }
 

@@ -42,7 +42,7 @@ pub extern "C" fn phachunoi_check(heap: &mut [u32], roots: &[u32], record: CReco
     answer_of(said)
 }
 
-// The live words; or SHAPE or DAMAGED. Every object may move.
+// Live words, live objects and addresses met; or SHAPE or DAMAGED. Every object may move.
 #[no_mangle]
 pub extern "C" fn phachunoi_collect(
     heap: &mut [u32],
