@@ -1,5 +1,4 @@
-// What the cases of `cases`, `call_cases` and `text_cases` go through: their calls through `step`, their
-// lines, and the heaps that several of them start from.
-pub mod calls;
+// What the cases of `cases` and `text_cases` go through: their calls through `step`, their lines, and the
+// heaps that several of them start from.
 pub mod run;
 pub mod start;

@@ -1,5 +1,5 @@
 // CodeWords::codes: code words set, refused, collected and loaded. P5's start, S = 8.
-use case_runs::calls;
+use super::calls;
 use case_runs::run;
 use case_runs::start;
 use model::Call;

@@ -1,5 +1,5 @@
 // P5 to P10: collections of P5's words under other roots, and allocations that collect.
-use case_runs::calls;
+use super::calls;
 use case_runs::run;
 use case_runs::start;
 use model::Call;

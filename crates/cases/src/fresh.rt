@@ -1,5 +1,5 @@
 // The Fresh cases: S = 8, one null root, each call on its own on what fresh leaves of words that are no heap.
-use case_runs::calls;
+use super::calls;
 use case_runs::run;
 use model::Kind;
 

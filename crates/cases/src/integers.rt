@@ -1,5 +1,5 @@
 // P1 and P2: integers and their words.
-use case_runs::calls;
+use super::calls;
 use case_runs::start;
 
 // Set into root 0, and inspected there.

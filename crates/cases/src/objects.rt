@@ -1,5 +1,5 @@
 // P3, a tuple, and P4, a string.
-use case_runs::calls;
+use super::calls;
 use case_runs::run;
 use case_runs::start;
 use model::Call;

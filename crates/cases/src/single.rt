@@ -1,5 +1,5 @@
 // EachCall::single and EachCall::twice: each call beside the paper's cases, and a root named twice. S = 8.
-use case_runs::calls;
+use super::calls;
 use case_runs::run;
 use case_runs::start;
 use model::Call;

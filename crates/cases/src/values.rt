@@ -1,7 +1,7 @@
 // Unsound::ofRoots and Unsound::ofFields: each root and each field of a traced object is a value; a raw
 // word is any word. S = 5.
+use super::calls;
 use super::judge;
-use case_runs::calls;
 use case_runs::run;
 use model::Call;
 

@@ -1,5 +1,5 @@
 // Unnamed::namings: each clause of "names an object" broken alone. S = 5.
-use case_runs::calls;
+use super::calls;
 use case_runs::run;
 use model::Record;
 

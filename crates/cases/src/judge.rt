@@ -1,6 +1,6 @@
 // Check and collect, and what else is asked where a clause of "sound" is broken; the heaps in which it is.
 // S = 5.
-use case_runs::calls;
+use super::calls;
 use case_runs::run;
 use model::Call;
 use model::Kind;

@@ -1,5 +1,5 @@
 // Every call that names a root: the root `r`, and the root 0 where it names a second.
-use case_runs::calls;
+use super::calls;
 use case_runs::run;
 use model::Kind;
 use model::Record;
