@@ -42,10 +42,15 @@ compile() {
         -mllvm -trap-unreachable -mllvm -no-trap-after-noreturn -fPIC -O3 -c -x ir "$1" -o "$2"
 }
 
-# The module for another processor: without data layout and without what only x86-64 has; nothing else differs.
+# The module for another processor: without data layout and without what only x86-64 has; nothing else differs. On
+# x86-64 a struct that is returned in memory has its address as the first argument and as the result; elsewhere C may
+# pass that address in a register of its own, which is what sret stands for.
 compile_own() {
     sed -e '/^target datalayout/d' -e "s/^target triple.*/target triple = \"$machine-unknown-linux-gnu\"/" \
-        -e 's/"target-cpu"="x86-64"//' -e 's/"probe-stack"="inline-asm"//' "$1" >"$2.ll"
+        -e 's/"target-cpu"="x86-64"//' -e 's/"probe-stack"="inline-asm"//' \
+        -e '/^define noundef ptr @phachunoi_/,/^}/{' \
+        -e 's/^define noundef ptr \(@[a-z_]*\)(ptr noundef %a0/define void \1(ptr sret([24 x i8]) %a0/' \
+        -e 's/ret ptr %a0/ret void/' -e '}' "$1" >"$2.ll"
     tools/cc.sh kit-clang "--target=$machine-unknown-linux-gnu" -ffunction-sections -fdata-sections \
         -Wno-override-module -fPIC -O3 -c -x ir "$2.ll" -o "$2"
 }
