@@ -20,7 +20,7 @@ use Rattle.theory.proofs.Collected.{new-text, live-is, new-length, new-first, n
 use Rattle.theory.proofs.Collected.{new-field, new-root, new-roots}
 use Rattle.theory.proofs.CollectedSound.{new-tiled, becomes, reach-order, order-reach, traced-field, new-sound}
 use Rattle.theory.proofs.Copies.{wordsBefore-nth}
-use Rattle.theory.proofs.Counting.{total, lists-total, length-total, among-total}
+use Rattle.theory.proofs.Counting.{sums-same}
 use Rattle.theory.proofs.Deciding.{tests-sound, sound-tests}
 use Rattle.demands.proofs.Meetings.{met, only}
 use Rattle.theory.proofs.Members.{In, in-tail, in-self, in-take, distinct-once, mem-in, in-mem}
@@ -29,16 +29,6 @@ use Rattle.theory.proofs.Order.{orderAt-distinct, order-fits, reach-reached, or
 use Rattle.theory.proofs.Packed.{wordsBefore-apart}
 use Rattle.theory.proofs.Shape.{unshaped}
 use Rattle.theory.proofs.Soundness.{SoundTests, sound-whole, sound-zero}
-
--- what is a sum over a list is the same of every list of exactly the same numbers
-pub sums-same : {P : ℕ → Type 0} (F : List ℕ → ℕ) (f : ℕ → ℕ) → ((o : List ℕ) → F o ≡ total f o)
-    → (o o′ : List ℕ) → D.Lists P o → D.Lists P o′ → F o ≡ F o′
-sums-same F f e o o′ l l′ = e o ∙ lists-total f o o′ l l′ ∙ sym (e o′)
-
-sizes-total : (Y : Layout) (H o : List ℕ) → D.sizes Y H o ≡ total (size Y H) o
-unfolding total
-sizes-total Y H [] = refl
-sizes-total Y H (i ∷ o) = ap (λ (n : ℕ). size Y H i + n) (sizes-total Y H o)
 
 module _ (Y : Layout) (s : State) (h : SoundTests Y s) where
   abbrev s′ : State
@@ -75,7 +65,7 @@ module _ (Y : Layout) (s : State) (h : SoundTests Y s) where
       (λ i m. reach-reached Y s h i (r i (in-mem i o m)))
 
   pub collects : D.Collects Y s s′ (counts Y s)
-  unfolding counts
+  unfolding counts addressesAmong
   collects = record {
     lists = order-lists;
     met = order-met;
@@ -104,11 +94,11 @@ module _ (Y : Layout) (s : State) (h : SoundTests Y s) where
     sameText = new-text Y s;
     live = λ o l.
         live-is Y s h ∙ sizes-packed (order Y s) (λ x m. m)
-        ∙ sums-same (D.sizes Y (s .heap)) (size Y (s .heap)) (sizes-total Y (s .heap)) (order Y s) o order-lists l;
-    objects = λ o l. sums-same length (λ i. 1) length-total (order Y s) o order-lists l;
+        ∙ sums-same (D.sizes Y (s .heap)) (size Y (s .heap)) refl (λ i x. refl) (order Y s) o order-lists l;
+    objects = λ o l. sums-same length (λ i. 1) refl (λ i x. omega arith) (order Y s) o order-lists l;
     addresses = λ o l.
         ap (λ (n : ℕ). addressesIn (s .roots) + n)
-        (sums-same (addressesAmong Y (s .heap)) (addressesOf Y (s .heap)) (among-total Y (s .heap)) (order Y s) o order-lists l);
+        (sums-same (addressesAmong Y (s .heap)) (addressesOf Y (s .heap)) refl (λ i x. refl) (order Y s) o order-lists l);
     used = new-free Y s h ∙ ap (λ x. x + live Y s) (sym (new-first Y s h));
     again = tests-sound Y s′ (new-sound Y s h);
   }

@@ -11,8 +11,7 @@ use Rattle.model.specs.Discovery.{packed}
 use Rattle.model.specs.Graph.{null, Value, plain, object, Object, traced, untraced, Graph, nth, rootValue, valueLeads}
 use Rattle.model.specs.Graph.{objectCells, graphCells, itself, totalWords, graphOrder, objectsIn, objectsOf}
 use Rattle.model.specs.Graph.{objectsAmong, graphCounts}
-use Rattle.theory.proofs.Counting.{total, length-total}
-use Rattle.demands.proofs.Demand2.{sums-same}
+use Rattle.theory.proofs.Counting.{sums-same}
 use Rattle.theory.proofs.Discovery.{Reach, root, cell, found-distinct, found-reach, reach-found}
 use Rattle.demands.proofs.GraphWords.{below, in-below, total-packed}
 use Rattle.theory.proofs.Lists.{getD-same}
@@ -65,17 +64,6 @@ module _ (g : Graph) where
       let c = words-sizes o in
       omega arith
 
-  -- what is counted of a list of objects is a sum over it
-  sizes-total : (o : List ℕ) → D3.graphSizes g o ≡ total (λ i. D3.graphSize (nth g i)) o
-  unfolding total
-  sizes-total [] = refl
-  sizes-total (i ∷ o) = ap (λ (n : ℕ). D3.graphSize (nth g i) + n) (sizes-total o)
-
-  objects-total : (o : List ℕ) → objectsAmong g o ≡ total (λ i. objectsOf (nth g i)) o
-  unfolding objectsAmong total
-  objects-total [] = refl
-  objects-total (i ∷ o) = ap (λ (n : ℕ). objectsOf (nth g i) + n) (objects-total o)
-
   -- where what is reachable is one of the graph's objects
   module _ (known : (i : ℕ) → D3.Reachable g i → i < length (g .objects)) where
     abbrev whole : List ℕ
@@ -115,15 +103,15 @@ module _ (g : Graph) where
     unfolding graphCounts
     live-listed o l =
         words-sizes whole
-        ∙ sums-same (D3.graphSizes g) (λ i. D3.graphSize (nth g i)) sizes-total whole o lists-whole l
+        ∙ sums-same (D3.graphSizes g) (λ i. D3.graphSize (nth g i)) refl (λ i x. refl) whole o lists-whole l
 
     pub objects-listed : (o : List ℕ) → D.Lists (D3.Reachable g) o → graphCounts g .objects ≡ length o
     unfolding graphCounts
-    objects-listed o l = sums-same length (λ i. 1) length-total whole o lists-whole l
+    objects-listed o l = sums-same length (λ i. 1) refl (λ i x. omega arith) whole o lists-whole l
 
     pub addresses-listed : (o : List ℕ) → D.Lists (D3.Reachable g) o
         → graphCounts g .addresses ≡ objectsIn (g .roots) + objectsAmong g o
-    unfolding graphCounts
+    unfolding graphCounts objectsAmong
     addresses-listed o l =
         ap (λ (n : ℕ). objectsIn (g .roots) + n)
-        (sums-same (objectsAmong g) (λ i. objectsOf (nth g i)) objects-total whole o lists-whole l)
+        (sums-same (objectsAmong g) (λ i. objectsOf (nth g i)) refl (λ i x. refl) whole o lists-whole l)

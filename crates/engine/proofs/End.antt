@@ -1,5 +1,5 @@
 -- THE END: once no word is left to pass and the used words are cleared, heap, roots and record are exactly
--- `collected`; of any lawful layout.
+-- `collected`, and what was met is `counts`; of any lawful layout.
 use Prim.Native.Nat.{ℕ, _+_, _-_, _≤_, _<_}
 use native.Mathlib.Omega.{arith}
 use mathlib.Core.Path.{_≡_, sym, ap, _∙_, subst}

@@ -4,21 +4,20 @@ use native.Mathlib.Nat.{add-zero}
 use native.Mathlib.Omega.{arith}
 use mathlib.Core.Path.{_≡_, refl, sym, ap, subst}
 use mathlib.Core.Logic.{_⊎_, inl, inr, ⊎-elim}
-use mathlib.Core.Bool.{true, false}
+use mathlib.Core.Bool.{true}
 use mathlib.Core.List.{List, [], _∷_, map}
 use mathlib.Core.Option.{Option}
 use lib.ListN.{length}
 use Rattle.model.specs.Limits.{maxRoots}
 use Rattle.model.specs.Words.{State, at, otherFirst}
-use Rattle.model.specs.Values.{isAddress}
 use Rattle.model.specs.Headers.{Layout, Marks}
 use Rattle.model.specs.Discovery.{visit, visits, packed, found}
 use Rattle.model.specs.Soundness.{headers, isValue}
 use Rattle.model.specs.Collection.{Cell, addressesIn, cells, wordLeads, orderAt, rename}
-use Rattle.theory.proofs.Tests.{by-test, decide}
+use Rattle.theory.proofs.Tests.{decide}
 use Rattle.theory.proofs.Members.{In, in-nil}
 use Rattle.theory.proofs.Visits.{visits-starts, visit-has}
-use Rattle.theory.proofs.Counting.{meets, meetings, meets-most, address-meets, plain-meets}
+use Rattle.theory.proofs.Counting.{meetings, meets-most, word-meets}
 use Rattle.theory.proofs.Shape.{other-in}
 use Rattle.theory.proofs.Soundness.{SoundTests}
 use Rattle.theory.proofs.Values.{leads-address, value-header}
@@ -74,15 +73,6 @@ module _ (Y : Layout) (K : Marks Y) (s : State) (v : SoundTests Y s) where
     ahead = zero-le;
   }
 
-  -- a root more met
-  met-next : (m : Tally) (w : ℕ) (rs : List ℕ) → addressesMet m + meets (wordLeads Y w) + addressesIn rs ≡ addressesMet m + addressesIn (w ∷ rs)
-  unfolding addressesIn
-  met-next m w rs =
-      ⊎-elim
-      (λ (q : isAddress w ≡ true). rw (q, address-meets Y w q) (omega arith))
-      (λ (q : isAddress w ≡ false). rw (q, plain-meets Y w q) (omega arith))
-      (by-test (isAddress w))
-
   roots-all : (rs o h : List ℕ) (m : Tally) → Midway Y s o 0 h → m .copied ≡ length o
       → addressesMet m + length rs ≤ maxRoots
       → ((r : ℕ) → r < length rs → isValue Y (headers Y s) (at rs r) ≡ true)
@@ -108,7 +98,7 @@ module _ (Y : Layout) (K : Marks Y) (s : State) (v : SoundTests Y s) where
           free = i .1 .free;
           roots = rw (F .word, ← stay) (ap (λ (y : List ℕ). rename Y H (visits o₁ (map (wordLeads Y) rs)) t w ∷ y) (i .1 .roots));
           copied = i .1 .copied;
-          met = omega (arith, i .1 .met, F .met m, met-next m w rs);
+          met = omega (arith, i .1 .met, F .met m, word-meets Y w);
         },
       )
 

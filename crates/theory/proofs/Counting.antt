@@ -72,26 +72,23 @@ module _ (Y : Layout) where
   unfolding wordLeads
   plain-meets w p = rw p
 
+  pub word-meets : (w : ℕ) → cond (isAddress w) 1 0 ≡ meets (wordLeads Y w)
+  word-meets w =
+      ⊎-elim
+      (λ (p : isAddress w ≡ true). rw (p, address-meets w p))
+      (λ (p : isAddress w ≡ false). rw (p, plain-meets w p))
+      (by-test (isAddress w))
+
   pub words-met : (ws : List ℕ) → addressesIn ws ≡ meetings (map (wordLeads Y) ws)
   unfolding addressesIn meetings
   words-met [] = refl
-  words-met (w ∷ ws) =
-      let ih = words-met ws in
-      ⊎-elim
-      (λ (p : isAddress w ≡ true). rw (p, address-meets w p, ih))
-      (λ (p : isAddress w ≡ false). rw (p, plain-meets w p, ih))
-      (by-test (isAddress w))
+  words-met (w ∷ ws) = let m = word-meets w in let ih = words-met ws in omega arith
 
   -- fields by their object's kind
   values-met : (ws : List ℕ) → addressesIn ws ≡ meetings (map (cellLeads Y) (map (fieldCell Traced) ws))
   unfolding addressesIn meetings
   values-met [] = refl
-  values-met (w ∷ ws) =
-      let ih = values-met ws in
-      ⊎-elim
-      (λ (p : isAddress w ≡ true). rw (p, address-meets w p, ih))
-      (λ (p : isAddress w ≡ false). rw (p, plain-meets w p, ih))
-      (by-test (isAddress w))
+  values-met (w ∷ ws) = let m = word-meets w in let ih = values-met ws in omega arith
 
   raws-met : (ws : List ℕ) → 0 ≡ meetings (map (cellLeads Y) (map (fieldCell Untraced) ws))
   unfolding meetings
@@ -147,7 +144,7 @@ module _ (Y : Layout) where
 
 -- ---- sums over a list of nodes
 
-unfoldable pub total : (ℕ → ℕ) → List ℕ → ℕ
+unfoldable total : (ℕ → ℕ) → List ℕ → ℕ
 total f [] = 0
 total f (i ∷ o) = f i + total f o
 
@@ -165,7 +162,7 @@ total-packed f (i ∷ o) =
     omega arith
 
 -- two lists of exactly the same numbers, each once
-pub lists-total : {P : ℕ → Type 0} (f : ℕ → ℕ) (o o′ : List ℕ) → Lists P o → Lists P o′ → total f o ≡ total f o′
+lists-total : {P : ℕ → Type 0} (f : ℕ → ℕ) (o o′ : List ℕ) → Lists P o → Lists P o′ → total f o ≡ total f o′
 lists-total {P} f o o′ l l′ =
     let within : (a b : List ℕ) → Lists P a → Lists P b → total f a ≤ total f b =
     λ a b la lb.
@@ -174,12 +171,13 @@ lists-total {P} f o o′ l l′ =
     omega (arith, total-packed f a, total-packed f b) in
     omega (arith, within o o′ l l′, within o′ o l′ l)
 
-pub length-total : (o : List ℕ) → length o ≡ total (λ i. 1) o
+-- what is 0 of no node, and with one node more is f of it more, is that sum, and so the same of both lists
+is-total : (F : List ℕ → ℕ) (f : ℕ → ℕ) → F [] ≡ 0 → ((i : ℕ) (o : List ℕ) → F (i ∷ o) ≡ f i + F o) → (o : List ℕ) → F o ≡ total f o
 unfolding total
-length-total [] = refl
-length-total (i ∷ o) = let ih = length-total o in omega arith
+is-total F f empty more [] = empty
+is-total F f empty more (i ∷ o) = more i o ∙ ap (λ (n : ℕ). f i + n) (is-total F f empty more o)
 
-pub among-total : (Y : Layout) (H o : List ℕ) → addressesAmong Y H o ≡ total (addressesOf Y H) o
-unfolding addressesAmong total
-among-total Y H [] = refl
-among-total Y H (i ∷ o) = ap (λ (n : ℕ). addressesOf Y H i + n) (among-total Y H o)
+pub sums-same : {P : ℕ → Type 0} (F : List ℕ → ℕ) (f : ℕ → ℕ) → F [] ≡ 0 → ((i : ℕ) (o : List ℕ) → F (i ∷ o) ≡ f i + F o)
+    → (o o′ : List ℕ) → Lists P o → Lists P o′ → F o ≡ F o′
+sums-same F f empty more o o′ l l′ =
+    is-total F f empty more o ∙ lists-total f o o′ l l′ ∙ sym (is-total F f empty more o′)
