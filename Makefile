@@ -33,7 +33,7 @@ check-mutants: ## the tests themselves, tested: each deliberate mistake must be 
 picture: lib ## draws the heap P5 before and after its collection into docs/
 	tools/picture.sh
 
-bench: ## the archive beside C, by the clock: a table, and a picture in target/bench; ORDERS=n ROUNDS=n
+bench: ## the archive beside C, by the clock: a table, and a picture in target/bench; ORDERS=n ROUNDS=n BEFORE=module.ll
 	bench/run.sh
 
 bench-count: ## the same in instructions of the x86-64 code, held against bench/counts.txt; STORE=store stores them

@@ -1,6 +1,7 @@
 /* Every contender against the model of tests/c on small heaps at random, sound and damaged: the same verdict and
-   numbers, the same words, roots and record; and a check leaves all as it was. And every twin against its call: the
-   same struct returned, the same words and roots left. */
+   numbers, the same words, roots and record; and a check leaves all as it was. One heap in 16 is larger, with stretches
+   of objects of one sort. And on the small ones every twin against its call: the same struct returned, the same words
+   and roots left. */
 #include <stdio.h>
 #include <stdlib.h>
 #include <string.h>
@@ -14,7 +15,9 @@
 #include "contenders.h"
 #include "twins.h"
 
-#define MOST_WORDS 81
+#define SMALL_WORDS 81
+#define MOST_WORDS 12001
+#define PAST 16 /* words behind a heap, which no call may change */
 #define MOST_ROOTS 6
 #define MOST_BYTES 120
 
@@ -27,20 +30,23 @@ static const struct {
   const char *name;
   uint32_t (*collect)(struct state *s, struct counts *counts);
   int only_sound;
-} collectors[] = {{"bare", sound_bare, 1},     {"bare-used", sound_bare_used, 1},     {"engine", sound_engine, 1},
-                  {"full", full_collect, 0},   {"full-words", full_collect_words, 0}, {"collect", archive_collect, 0}};
+} collectors[] = {{"bare", sound_bare, 1},
+                  {"bare-used", sound_bare_used, 1},
+                  {"engine", sound_engine, 1},
+                  {"full", full_collect, 0},
+                  {"collect", archive_collect, 0}};
 
 static const struct {
   const char *name;
   int (*check)(struct state *s);
-} checkers[] = {{"full-check", full_check}, {"full-check-words", full_check_words}, {"check", archive_check}};
+} checkers[] = {{"full-check", full_check}, {"check", archive_check}};
 
 static unsigned long differences;
 
 static void compare(const struct state *s, const struct state *expected, int verdict, const char *name,
                     unsigned long heap) {
   if (verdict && s->half == expected->half && s->free == expected->free &&
-      memcmp(s->heap, expected->heap, MOST_WORDS * sizeof *s->heap) == 0 &&
+      memcmp(s->heap, expected->heap, (s->words + PAST) * sizeof *s->heap) == 0 &&
       memcmp(s->roots, expected->roots, MOST_ROOTS * sizeof *s->roots) == 0)
     return;
   differences++;
@@ -50,13 +56,13 @@ static void compare(const struct state *s, const struct state *expected, int ver
 /* A copy of a heap in words of its own. */
 static struct state again(const struct state *s, uint32_t *words, uint32_t *roots) {
   struct state copy = *s;
-  copy.heap = memcpy(words, s->heap, MOST_WORDS * sizeof *words);
+  copy.heap = memcpy(words, s->heap, (s->words + PAST) * sizeof *words);
   copy.roots = memcpy(roots, s->roots, MOST_ROOTS * sizeof *roots);
   return copy;
 }
 
 static void hold(const struct state *start, int sound, unsigned long heap) {
-  static uint32_t words[2][MOST_WORDS], roots[2][MOST_ROOTS];
+  static uint32_t words[2][MOST_WORDS + PAST], roots[2][MOST_ROOTS];
   struct call call = {COLLECT, 0, 0, 0, 0, 0, {0, 0, 0}, NULL};
   struct state expected = again(start, words[0], roots[0]), s;
   struct said said = model_call(&expected, &call);
@@ -87,11 +93,11 @@ static void hold(const struct state *start, int sound, unsigned long heap) {
   } while (0)
 
 static void hold_twins(const struct state *start, unsigned long heap) {
-  static uint32_t words[2][MOST_WORDS], roots[2][MOST_ROOTS];
+  static uint32_t words[2][MOST_WORDS + PAST], roots[2][MOST_ROOTS];
   size_t a = below(MOST_ROOTS + 1), b = below(MOST_ROOTS + 1), field = below(5);
   int64_t value = (int64_t)(random_bits() >> 32) - 2147483648LL;
   uint32_t code = asked_code();
-  phachunoi_window window = {0, below(MOST_WORDS), below(8)};
+  phachunoi_window window = {0, below(SMALL_WORDS), below(8)};
   HOLD_TWIN(phachunoi_result, fresh, (h->words, h->word_count, h->record));
   HOLD_TWIN(phachunoi_answer, check, (PHACHUNOI_LENT(h)));
   HOLD_TWIN(phachunoi_collected, collect, (PHACHUNOI_LENT(h)));
@@ -127,7 +133,7 @@ static void hold_writer(const struct state *start, unsigned long heap) {
 
 /* The reader and its twin, on a text that is broken now and then. */
 static void hold_reader(const struct state *start, unsigned long heap) {
-  static uint32_t words[2][MOST_WORDS], roots[2][MOST_ROOTS];
+  static uint32_t words[2][MOST_WORDS + PAST], roots[2][MOST_ROOTS];
   char text[1000];
   size_t a = below(MOST_ROOTS + 1), bytes = random_text(text, 300, below(8));
   if (one_in(20)) bytes = nested_text(text, 55 + below(15));
@@ -135,13 +141,30 @@ static void hold_reader(const struct state *start, unsigned long heap) {
   HOLD_TWIN(phachunoi_result, read, (PHACHUNOI_LENT(h), a, text, bytes));
 }
 
+/* A larger heap, sound and then damaged. Answers how many of the two were sound. */
+static unsigned long hold_larger(struct state *s, unsigned long heap) {
+  int good;
+  s->words = 2 * (size_t)below(one_in(4) ? MOST_WORDS / 2 : 800) + 3;
+  s->half = below(2);
+  stretched_heap(s);
+  hold(s, 1, heap);
+  damage(s);
+  good = model_sound(s);
+  hold(s, good, heap);
+  return 1 + (unsigned long)good;
+}
+
 int main(int argc, char **argv) {
-  static uint32_t words[MOST_WORDS], roots[MOST_ROOTS];
+  static uint32_t words[MOST_WORDS + PAST], roots[MOST_ROOTS];
   unsigned long heaps = argc > 1 ? strtoul(argv[1], NULL, 10) : 1000000, sound = 0, i;
   random_seed(2026);
   for (i = 0; i < heaps && differences < 10; i++) {
     struct state s = {words, 2 * (size_t)below(40) + 3, roots, below(MOST_ROOTS + 1), 0, 0, NULL, 0};
     int good;
+    if (one_in(16)) {
+      sound += hold_larger(&s, i++);
+      continue;
+    }
     if (one_in(3)) tuple_heap(&s);
     else sound_heap(&s);
     if (one_in(2)) damage(&s);

@@ -1,5 +1,5 @@
-/* Collectors, checks and an allocation in C, as fast as plain C makes them: no call and no test in a loop that can be
-   left out. In this order: words, (a), the check, (b), (c). */
+/* Collectors and an allocation in C, as fast as plain C makes them: no call and no test in a loop that can be left out.
+   In this order: words, (a), (b), (c). The check of (b) stands in full_check.c. */
 #include "baseline.h"
 
 #include "rules.h"
@@ -98,103 +98,13 @@ struct counts bare_collect_used(struct state *s) {
   return collect_sound(s, s->free - first_word(s->words, s->half));
 }
 
-/* ---- the check ---- */
+/* ---- (b) the collection with all duties ---- */
 
 static inline int misshapen(const struct state *s) { return bad_shape(s->words, s->root_count, s->half, s->free); }
 
-/* 32 words a turn, one test a turn. */
-static int all_zero(const uint32_t *words, size_t n) {
-  uint32_t bits = 0;
-  size_t i;
-  for (; n >= 32; n -= 32, words += 32) {
-    for (i = 0; i < 32; i++) bits |= words[i];
-    if (bits) return 0;
-  }
-  for (i = 0; i < n; i++) bits |= words[i];
-  return bits == 0;
-}
-
-/* The used part of a half, and where its headers are marked. */
-struct part {
-  uint32_t *first, *marks;
-  uint32_t used, address; /* of the first word */
-};
-
-static inline void set_mark(const struct part *p, uint32_t k, int by_word) {
-  if (by_word) p->marks[k] = 1;
-  else p->marks[k >> 5] |= 1u << (k & 31);
-}
-
-static inline int has_mark(const struct part *p, uint32_t k, int by_word) {
-  return by_word ? p->marks[k] != 0 : (p->marks[k >> 5] >> (k & 31)) & 1;
-}
-
-static inline int is_value(const struct part *p, uint32_t word, int by_word) {
-  uint32_t offset = word - p->address;
-  if (!is_address(word)) return 1;
-  return (offset & 3) == 0 && offset < 4 * p->used && has_mark(p, offset >> 2, by_word);
-}
-
-static inline int are_values(const struct part *p, const uint32_t *word, size_t n, int by_word) {
-  const uint32_t *end;
-  for (end = word + n; word < end; word++)
-    if (RARELY(!is_value(p, *word, by_word))) return 0;
-  return 1;
-}
-
-static inline int mark_headers(const struct part *p, int by_word) {
-  uint32_t k = 0;
-  while (k < p->used) {
-    uint32_t header = p->first[k];
-    if (RARELY(header & 1)) return 0;
-    set_mark(p, k, by_word);
-    k += count_of(header) + 1;
-  }
-  return k == p->used;
-}
-
-static inline int fields_are_values(const struct part *p, int by_word) {
-  const uint32_t *object = p->first, *end = p->first + p->used;
-  while (object < end) {
-    uint32_t header = *object++, n = count_of(header);
-    if (!(header >> 31) && !are_values(p, object, n, by_word)) return 0;
-    object += n;
-  }
-  return 1;
-}
-
-static inline __attribute__((always_inline)) int check_with(struct state *s, int by_word) {
-  uint32_t size = half_size(s->words), first, sound;
-  struct part p;
-  if (misshapen(s)) return 0;
-  first = first_word(s->words, s->half);
-  p.first = s->heap + first;
-  p.marks = s->heap + first_word(s->words, !s->half);
-  p.used = s->free - first;
-  p.address = 4 * first;
-  if (s->heap[0] || !all_zero(p.marks, size) || !all_zero(s->heap + s->free, size - p.used)) return 0;
-  sound = mark_headers(&p, by_word) && are_values(&p, s->roots, s->root_count, by_word) &&
-          fields_are_values(&p, by_word);
-  memset(p.marks, 0, (by_word ? p.used : (p.used + 31) / 32) * sizeof *p.marks);
-  return sound != 0;
-}
-
-int full_check(struct state *s) { return check_with(s, 0); }
-
-int full_check_words(struct state *s) { return check_with(s, 1); }
-
-/* ---- (b) the collection with all duties ---- */
-
 uint32_t full_collect(struct state *s, struct counts *counts) {
   if (misshapen(s)) return SHAPE;
-  if (!full_check(s)) return DAMAGED;
-  *counts = bare_collect_used(s);
-  return 0;
-}
-
-uint32_t full_collect_words(struct state *s, struct counts *counts) {
-  if (misshapen(s)) return SHAPE;
-  if (!full_check_words(s)) return DAMAGED;
+  if (!full_check_shaped(s)) return DAMAGED;
   *counts = bare_collect_used(s);
   return 0;
 }

@@ -11,14 +11,13 @@ struct counts bare_collect(struct state *s);
 struct counts bare_collect_used(struct state *s);
 
 /* (b) All the duties of document 01's collect: SHAPE, the tests for 0, the tiling with its marks, roots, fields, copy,
-   clear, and the three numbers. Answers 0, SHAPE (1) or DAMAGED (8); a refusal leaves the numbers as they were. The
-   first marks a header by one bit, the second by one word. */
+   clear, and the three numbers. Answers 0, SHAPE (1) or DAMAGED (8); a refusal leaves the numbers as they were. */
 uint32_t full_collect(struct state *s, struct counts *counts);
-uint32_t full_collect_words(struct state *s, struct counts *counts);
 
-/* The check that these begin with: 1 if the heap is sound, else 0. No word differs afterwards. */
+/* The check that this begins with, in full_check.c: 1 if the heap is sound, else 0. No word differs afterwards. The
+   second is for a heap whose shape has been tested. */
 int full_check(struct state *s);
-int full_check_words(struct state *s);
+int full_check_shaped(struct state *s);
 
 /* (c) Allocation by moving the free index, after its tests: 0, or the number of the refusal. If there is no room, the
    first collects with all duties, the second with none. */

@@ -1,4 +1,4 @@
-/* Collections and checks of the eight heaps, after each collector has been held against the model on each. */
+/* Collections and checks of the heaps, after each collector has been held against the model on each. */
 #include <stdio.h>
 #include <stdlib.h>
 #include <string.h>

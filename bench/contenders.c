@@ -1,44 +1,16 @@
 /* Who is measured, each as a function that collects or checks a heap some times in a row. */
 #include "contenders.h"
 
-#include <stdio.h>
-#include <stdlib.h>
-
 #include "baseline.h"
-
-phachunoi_heap heap_of(const struct state *s) {
-  phachunoi_heap h;
-  h.words = s->heap;
-  h.word_count = s->words;
-  h.roots = s->roots;
-  h.root_count = s->root_count;
-  h.record.half = s->half;
-  h.record.free = s->free;
-  return h;
-}
+#include "by_archive.h"
 
 /* ---- the archive ---- */
 
-static phachunoi_record record_of(const struct state *s) {
-  phachunoi_record record;
-  record.half = s->half;
-  record.free = s->free;
-  return record;
-}
+phachunoi_heap heap_of(const struct state *s) { return lent_by(s); }
 
-uint32_t archive_collect(struct state *s, struct counts *counts) {
-  phachunoi_collected c = phachunoi_collect(s->heap, s->words, s->roots, s->root_count, record_of(s));
-  s->half = c.record.half;
-  s->free = c.record.free;
-  counts->live = c.live;
-  counts->objects = c.objects;
-  counts->addresses = c.addresses;
-  return c.refusal;
-}
+uint32_t archive_collect(struct state *s, struct counts *counts) { return collect_by_archive(s, counts); }
 
-int archive_check(struct state *s) {
-  return (int)phachunoi_check(s->heap, s->words, s->roots, s->root_count, record_of(s)).value;
-}
+int archive_check(struct state *s) { return check_by_archive(s); }
 
 /* ---- its collector by itself, as Rattle calls it: slices, record and answer in memory ---- */
 
@@ -80,12 +52,6 @@ struct counts engine_collect(struct state *s) {
 
 struct counts counted;
 
-static void expect(int done) {
-  if (done) return;
-  fprintf(stderr, "bench: a contender refuses a sound heap\n");
-  exit(2);
-}
-
 static void run_bare(struct state *s, size_t times) {
   while (times-- > 0) counted = bare_collect(s);
 }
@@ -99,27 +65,19 @@ static void run_engine(struct state *s, size_t times) {
 }
 
 static void run_full(struct state *s, size_t times) {
-  while (times-- > 0) expect(full_collect(s, &counted) == 0);
-}
-
-static void run_full_words(struct state *s, size_t times) {
-  while (times-- > 0) expect(full_collect_words(s, &counted) == 0);
+  while (times-- > 0) expect_done(full_collect(s, &counted));
 }
 
 static void run_collect(struct state *s, size_t times) {
-  while (times-- > 0) expect(archive_collect(s, &counted) == 0);
+  while (times-- > 0) expect_done(collect_by_archive(s, &counted));
 }
 
 static void run_full_check(struct state *s, size_t times) {
-  while (times-- > 0) expect(full_check(s));
-}
-
-static void run_full_check_words(struct state *s, size_t times) {
-  while (times-- > 0) expect(full_check_words(s));
+  while (times-- > 0) expect_done(!full_check(s));
 }
 
 static void run_check(struct state *s, size_t times) {
-  while (times-- > 0) expect(archive_check(s));
+  while (times-- > 0) expect_done(!check_by_archive(s));
 }
 
 const struct contender contenders[COLLECTORS + CHECKERS] = {
@@ -128,8 +86,12 @@ const struct contender contenders[COLLECTORS + CHECKERS] = {
     {"engine", run_engine},
     {"collect", run_collect},
     {"bare-used", run_bare_used},
-    {"full-words", run_full_words},
+#ifdef WITH_BEFORE
+    {"before-collect", run_before_collect},
+#endif
     {"full-check", run_full_check},
-    {"full-check-words", run_full_check_words},
     {"check", run_check},
+#ifdef WITH_BEFORE
+    {"before-check", run_before_check},
+#endif
 };

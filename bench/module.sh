@@ -4,6 +4,8 @@
 #   engine.o          its collector by itself: the LLVM module that the archive is compiled from, with one function left to
 #                     call from outside, engine::collect_sound, compiled by the same clang with the same words
 #   own/library.o, own/engine.o   both for this machine's processor; on x86-64 they are the archive's object and engine.o
+#   before.o, own/before.o   the archive before, if BEFORE names the module that was kept when this script ran on an
+#                     earlier revision (its target/bench/module.ll): phachunoi_check is before_check in it, and so on
 # The module is kept by a clang that rt is shown: a folder of links to the kit in which only that command is another.
 set -eu
 cd "$(dirname "$0")/.."
@@ -48,7 +50,7 @@ compile() {
 compile_own() {
     sed -e '/^target datalayout/d' -e "s/^target triple.*/target triple = \"$machine-unknown-linux-gnu\"/" \
         -e 's/"target-cpu"="x86-64"//' -e 's/"probe-stack"="inline-asm"//' \
-        -e '/^define noundef ptr @phachunoi_/,/^}/{' \
+        -e '/^define noundef ptr @\(phachunoi\|before\)_/,/^}/{' \
         -e 's/^define noundef ptr \(@[a-z_]*\)(ptr noundef %a0/define void \1(ptr sret([24 x i8]) %a0/' \
         -e 's/ret ptr %a0/ret void/' -e '}' "$1" >"$2.ll"
     tools/cc.sh kit-clang "--target=$machine-unknown-linux-gnu" -ffunction-sections -fdata-sections \
@@ -77,4 +79,13 @@ if [ "$machine" = x86_64 ]; then
 else
     compile_own "$made/module.ll" "$made/own/library.o"
     compile_own "$made/engine.ll" "$made/own/engine.o"
+fi
+
+[ -n "${BEFORE:-}" ] || exit 0
+sed 's/@phachunoi_/@before_/g' "$BEFORE" >"$made/before.ll"
+compile "$made/before.ll" "$made/before.o"
+if [ "$machine" = x86_64 ]; then
+    cp "$made/before.o" "$made/own/"
+else
+    compile_own "$made/before.ll" "$made/own/before.o"
 fi

@@ -12,21 +12,33 @@ is shown is the median of the orders and, where it says so, the range.
 import statistics
 import sys
 
-WORKLOADS = "tree list graph garbage blocks strings small empty nulls".split()
-MOSTLY_LIVE = "tree list graph blocks strings small nulls".split()
+WORKLOADS = "tree list graph garbage blocks strings closures roots small empty nulls".split()
+MOSTLY_LIVE = "tree list graph blocks strings closures roots small nulls".split()
+ALL_BUT_SMALL = [w for w in WORKLOADS if w != "small"]
 
 # Name, of, to, bar of instructions, bar of time, workloads that the bars are for, other bars of time.
 RATIOS = [
-    ("collect / (b)", "collect", "full", 1.15, 1.30, WORKLOADS, {}),
-    ("collect / (b), mark words", "collect", "full-words", None, None, WORKLOADS, {}),
+    ("collect / (b)", "collect", "full", 1.15, 1.15, WORKLOADS, {}),
     ("engine / (a)", "engine", "bare", 1.10, 1.10, WORKLOADS, {"tree": 1.25, "small": 1.25}),
     ("engine / (a), used words", "engine", "bare-used", None, None, WORKLOADS, {}),
     ("collect / (a)", "collect", "bare", 2.50, 2.50, MOSTLY_LIVE, {}),
-    ("check / C's check", "check", "full-check", 1.15, 1.10, WORKLOADS, {}),
-    ("check / C's, mark words", "check", "full-check-words", None, None, WORKLOADS, {}),
+    ("check / C's check", "check", "full-check", 1.15, None, WORKLOADS, {}),
     ("(b) / (a)", "full", "bare", None, None, WORKLOADS, {}),
 ]
-NOT_COUNTED = {"collect / (b)": ("blocks", "empty")}  # no bar of instructions while a mark is a word
+# The same beside the archive before, if it was measured.
+BEFORE = [
+    ("check / check before", "check", "before-check", None, 1.00, ALL_BUT_SMALL, {}),
+    ("collect / collect before", "collect", "before-collect", None, None, WORKLOADS, {}),
+    ("C's check / check before", "full-check", "before-check", None, None, WORKLOADS, {}),
+]
+# The geometric mean over all workloads is shown of these, with its bars of instructions and of time.
+MEANS = {
+    "collect / (b)": (None, None),
+    "check / C's check": (None, 1.15),
+    "check / check before": (None, 0.70),
+    "collect / collect before": (None, None),
+    "C's check / check before": (None, None),
+}
 ALLOCATE = (1.30, 1.25)  # beside (c)
 TWIN = (1.10, 1.15)
 TEXT = (1.25, None)  # a text and its twin, instructions and time
@@ -65,6 +77,9 @@ class Measured:
     def __init__(self, counts, runs):
         self.counts, self.runs = counts, runs
 
+    def timed(self, subject):
+        return any(s == subject for run in self.runs[:1] for s, _, _ in run)
+
     def count_ratio(self, subject, workload, of, to):
         return self.counts[subject, workload, of] / self.counts[subject, workload, to]
 
@@ -97,15 +112,22 @@ def row(name, cells, bar):
     print("%-27s%s   %s" % (name, "".join(cells), "" if bar is None else "bar %.2f" % bar))
 
 
-def collecting(ratio, which):
+def ratios_in(measured):
+    """The lines of the tables: with the archive before, if that was measured."""
+    return RATIOS + (BEFORE if ("collecting", WORKLOADS[0], "before-check") in measured else [])
+
+
+def collecting(ratio, which, ratios):
     """The table of instructions (which = 0) or of time (1)."""
-    print("%-27s%s" % ("", "".join("%7s " % w for w in WORKLOADS)))
-    for name, of, to, *bars, workloads, others in RATIOS:
+    print("%-27s%s    mean" % ("", "".join("%8s " % w for w in WORKLOADS)))
+    for name, of, to, *bars, workloads, others in ratios:
+        each = [ratio("collecting", w, of, to) for w in WORKLOADS]
         cells = []
-        for w in WORKLOADS:
-            barred = w in workloads and not (which == 0 and w in NOT_COUNTED.get(name, ()))
+        for w, value in zip(WORKLOADS, each):
             bar = others.get(w, bars[which]) if which == 1 else bars[which]
-            cells.append(cell(ratio("collecting", w, of, to), bar if barred else None))
+            cells.append(" " + cell(value, bar if w in workloads else None))
+        if name in MEANS:
+            cells.append(" " + cell(statistics.geometric_mean(each), MEANS[name][which]))
         row(name, cells, bars[which])
     print()
 
@@ -117,13 +139,13 @@ def ranged(m, subject, workload, of, to, bar):
 
 def calling(m):
     """Each exported call and its twin. The instructions are the call's own: one that does nothing is taken off."""
-    timed = "time: ratio, range, ns" if m.runs else ""
+    timed = "time: ratio, range, ns" if m.timed("calling") else ""
     print("%-20s%8s%9s%8s   %s" % ("call / twin", "twin", "archive", "ratio", timed))
     for w in workloads_of(m.counts, "calling"):
         twin, archive = (m.own_count("calling", w, c) for c in ("twin", "archive"))
         ratio = cell(archive / twin, TWIN[0]) if twin > 2 else "      - "
         line = "%-20s%8.0f%9.0f%s" % (w, twin, archive, ratio)
-        if m.runs:
+        if m.timed("calling"):
             ratios = ranged(m, "calling", w, "archive", "twin", TWIN[1])
             line += "   %s %6.2f" % (ratios, m.time("calling", w, "archive"))
         print(line)
@@ -134,14 +156,15 @@ def allocating(m):
     fields = workloads_of(m.counts, "allocating")
     print("allocate, by fields        " + "".join("%7s " % n for n in fields))
     for name, other, bars in ("twin", "twin", TWIN), ("(c)", "baseline", ALLOCATE):
-        shown = [("instructions", m.count_ratio, bars[0])] + ([("time", m.time_ratio, bars[1])] if m.runs else [])
+        shown = [("instructions", m.count_ratio, bars[0])]
+        shown += [("time", m.time_ratio, bars[1])] if m.timed("allocating") else []
         for what, ratio, bar in shown:
             row("  %s / %s" % (what, name), [cell(ratio("allocating", n, "archive", other), bar) for n in fields], bar)
     objects = {n: 65536 // (int(n) + 1) for n in fields}
     for contender in "baseline", "twin", "archive":
         each = [m.counts["allocating", n, contender] / objects[n] for n in fields]
         row("  instructions, " + contender, ["%7.1f " % x for x in each], None)
-        if m.runs:
+        if m.timed("allocating"):
             each = [m.time("allocating", n, contender) / objects[n] for n in fields]
             row("  ns, " + contender, ["%7.1f " % x for x in each], None)
     print()
@@ -176,13 +199,13 @@ def growth(m):
 def texts(m):
     """Of each text, named with its bytes: instructions a byte, which stay the same if time is linear in the text."""
     for subject in ["writing", "reading"]:
-        timed = "time: ratio, range, ns a byte" if m.runs else ""
+        timed = "time: ratio, range, ns a byte" if m.timed(subject) else ""
         print("%-20s%8s%9s%9s%8s   %s" % (subject, "bytes", "twin", "archive", "ratio", timed))
         for w in workloads_of(m.counts, subject):
             name, size = w.split("/")
             twin, archive = (m.counts[subject, w, c] / int(size) for c in ("twin", "archive"))
             line = "%-20s%8s%9.2f%9.2f%s" % (name, size, twin, archive, cell(archive / twin, TEXT[0]))
-            if m.runs:
+            if m.timed(subject):
                 ratios = ranged(m, subject, w, "archive", "twin", TEXT[1])
                 line += "   %s %6.2f" % (ratios, m.time(subject, w, "archive") / int(size))
             print(line)
@@ -210,30 +233,39 @@ def peers(m):
         print("  S = %-8s %s" % (half, ", ".join(said)))
 
 
+def lisp(m):
+    print("The Lisp, milliseconds of a program; the ratio to the archive before, with its range:")
+    for w in workloads_of(m.runs[0], "lisp"):
+        ms = m.time("lisp", w, "archive") / 1e6
+        print("  %-14s %8.2f %s" % (w, ms, ranged(m, "lisp", w, "archive", "before", None)))
+
+
 def tables(m):
     print("Instructions, as ratios; '!' is above the bar.")
-    collecting(m.count_ratio, 0)
+    collecting(m.count_ratio, 0, ratios_in(m.counts))
     words = m.counts["collecting", "empty", "check"] / 2097153
     print("check of an empty heap: %.2f instructions a word read, bar 1.40%s\n" % (words, "!" if words > 1.4 else ""))
-    if m.runs:
+    if m.timed("collecting"):
         rounds = len(next(iter(m.runs[0].values())))
         print("Time, as ratios: the median of %d link orders, %d rounds each." % (len(m.runs), rounds))
-        collecting(m.time_ratio, 1)
+        collecting(m.time_ratio, 1, ratios_in(m.runs[0]))
         print("Between the lowest and the highest order:")
-        for name, of, to, *_ in RATIOS:
+        for name, of, to, *_ in ratios_in(m.runs[0]):
             each = [m.time_ratios("collecting", w, of, to) for w in WORKLOADS]
             print("%-27s%s" % (name, " ".join("%.2f-%.2f" % (r[0], r[-1]) for r in each)))
         print("Microseconds of one call:")
         for c in dict.fromkeys(c for s, _, c in m.runs[0] if s == "collecting"):
             each = [(3 if w == "small" else 0, m.time("collecting", w, c) / 1e3) for w in WORKLOADS]
-            print("%-27s%s" % (c, "".join("%7.*f " % pair for pair in each)))
+            print("%-27s%s" % (c, "".join("%8.*f " % pair for pair in each)))
         print()
     calling(m)
     allocating(m)
     growth(m)
     texts(m)
-    if m.runs:
+    if m.timed("trees"):
         peers(m)
+    if m.timed("lisp"):
+        lisp(m)
 
 
 # ---- the picture ----
@@ -311,9 +343,9 @@ def growth_panel(top, m):
 def picture(m):
     said, top = [], 50
     for title, of, to, bars in (
-        ("collect / (b): C with all duties of collect", "collect", "full", (1.15, 1.30)),
+        ("collect / (b): C with all duties of collect", "collect", "full", (1.15, 1.15)),
         ("engine / (a): bare Cheney in C", "engine", "bare", (1.10, 1.10)),
-        ("check / C's check", "check", "full-check", (1.15, 1.10)),
+        ("check / C's check", "check", "full-check", (1.15, 1.15)),
     ):
         counted = [m.count_ratio("collecting", w, of, to) for w in WORKLOADS]
         timed = [m.time_ratio("collecting", w, of, to) for w in WORKLOADS]

@@ -4,6 +4,7 @@
 #include <stdlib.h>
 
 #include "baseline.h"
+#include "by_archive.h"
 #include "contenders.h"
 #include "workloads.h"
 
@@ -11,13 +12,7 @@
 #include <gc.h>
 #endif
 
-enum { LIVE_DEPTH = 14, DEPTH = 12, TREES = 40, FULL_DEPTH = 16, ROOTS = 32 };
-
-static void expect(uint32_t refusal) {
-  if (refusal == 0) return;
-  fprintf(stderr, "bench: an allocation of a tree is refused\n");
-  exit(2);
-}
+enum { TREES = 40, FULL_DEPTH = 16, ROOTS = 32 };
 
 /* ---- in a heap of two halves: root `to` gets a tree, the roots above it are its builder's ---- */
 
@@ -25,7 +20,7 @@ typedef uint32_t allocate_function(struct state *s, size_t fields, size_t to, in
 
 static void grow(struct state *s, allocate_function *allocate, unsigned depth, size_t to) {
   uint32_t field;
-  expect(allocate(s, 2, to, 0));
+  expect_done(allocate(s, 2, to, 0));
   for (field = 1; field <= 2 && depth > 0; field++) {
     grow(s, allocate, depth - 1, to + 1);
     s->heap[s->roots[to] / 4 + field] = s->roots[to + 1];
@@ -42,21 +37,7 @@ static void run_bare(struct state *s, size_t times) { grow_and_drop(s, bare_allo
 
 static void run_full(struct state *s, size_t times) { grow_and_drop(s, full_allocate, times); }
 
-static void grow_in_archive(phachunoi_heap *heap, unsigned depth, size_t to) {
-  size_t field;
-  expect(phachunoi_heap_allocate_traced(heap, 2, to));
-  for (field = 0; field < 2 && depth > 0; field++) {
-    grow_in_archive(heap, depth - 1, to + 1);
-    expect(phachunoi_heap_store(heap, to, field, to + 1));
-  }
-}
-
-static void run_archive(struct state *s, size_t times) {
-  phachunoi_heap heap = heap_of(s);
-  size_t i;
-  grow_in_archive(&heap, LIVE_DEPTH, 0);
-  for (i = 0; i < times; i++) grow_in_archive(&heap, DEPTH, 1);
-}
+static void run_archive(struct state *s, size_t times) { trees_by_archive(s, times); }
 
 /* ---- in nodes of their own ---- */
 
@@ -119,6 +100,9 @@ static const struct contender builders[] = {
     {"malloc", run_malloc},
 #ifdef WITH_LIBGC
     {"libgc", run_libgc},
+#endif
+#ifdef WITH_BEFORE
+    {"before", run_before_trees},
 #endif
 };
 

@@ -43,7 +43,7 @@ phachunoi_answer twin_check(uint32_t *heap, size_t word_count, const uint32_t *r
                             phachunoi_record record) {
   struct state s = state_of(heap, word_count, roots, root_count, record);
   if (RARELY(bad_shape(word_count, root_count, record.half, record.free))) return answered(PHACHUNOI_SHAPE, 0);
-  return answered(PHACHUNOI_DONE, (uint32_t)full_check(&s));
+  return answered(PHACHUNOI_DONE, (uint32_t)full_check_shaped(&s));
 }
 
 phachunoi_collected twin_collect(uint32_t *heap, size_t word_count, uint32_t *roots, size_t root_count,

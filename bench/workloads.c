@@ -165,6 +165,40 @@ static void strings(struct state *s) {
   s->roots[0] = rest;
 }
 
+/* ---- code words among the values ---- */
+
+static uint32_t some_code(void) { return 16777216 + 2 * below(1000); }
+
+/* Closures until the half is full: a code word and up to five values that were captured. */
+static void closures(struct state *s) {
+  uint32_t i, k;
+  empty_heap(s, 1048576, 64);
+  random_seed(5);
+  while (s->free + 6 <= 1048576) s->heap[object(s, 1 + below(6), 0) + 1] = some_code();
+  for (i = 0; i < object_count; i++)
+    for (k = 2; k <= fields_of(s, objects[i]); k++)
+      s->heap[objects[i] + k] = !one_in(4) ? some_object() : one_in(2) ? 0 : (uint32_t)random_bits() | 1;
+  for (i = 0; i < 64; i++) s->roots[i] = some_object();
+}
+
+/* Half of them addresses, a quarter integers, the rest null and code words. */
+static uint32_t some_value(void) {
+  if (one_in(2)) return some_object();
+  if (one_in(2)) return (uint32_t)random_bits() | 1;
+  return one_in(2) ? 0 : some_code();
+}
+
+/* As many roots as there can be, and as many words: objects of up to four fields. */
+static void roots(struct state *s) {
+  uint32_t i, k;
+  empty_heap(s, 65536, 65536);
+  random_seed(6);
+  while (s->free + 4 <= 65536) object(s, below(5), 0);
+  for (i = 0; i < object_count; i++)
+    for (k = 1; k <= fields_of(s, objects[i]); k++) s->heap[objects[i] + k] = some_value();
+  for (i = 0; i < 65536; i++) s->roots[i] = some_value();
+}
+
 /* ---- heaps at the limits ---- */
 
 /* S = 64: a list of eight objects of two to four fields, a block of raw words and four words of garbage. */
@@ -190,7 +224,8 @@ static void nulls(struct state *s) {
 }
 
 const struct workload workloads[] = {
-    {"tree", tree16, 1},   {"list", list200k, 1},    {"graph", graph, 1}, {"garbage", garbage, 1},
-    {"blocks", blocks, 1}, {"strings", strings, 1}, {"small", small, 100000}, {"empty", empty, 1}, {"nulls", nulls, 1},
+    {"tree", tree16, 1},         {"list", list200k, 1},   {"graph", graph, 1}, {"garbage", garbage, 1},
+    {"blocks", blocks, 1},       {"strings", strings, 1}, {"closures", closures, 1},
+    {"roots", roots, 10},        {"small", small, 100000}, {"empty", empty, 1}, {"nulls", nulls, 1},
 };
 const size_t workload_count = sizeof workloads / sizeof *workloads;

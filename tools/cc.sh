@@ -14,6 +14,7 @@
 #                                          bench/icount.c counts
 #   tools/cc.sh has FILE PACKAGE           whether a file is there, once its Debian package may have been installed
 #   tools/cc.sh own-build OUT WORDS..      as kit-build, but for this machine's processor and with its C library
+#   tools/cc.sh own-joined OUT NAME WORDS..  one object OUT of the .c files, of which only the function NAME can be called
 #   tools/cc.sh own-orders N OUT WORDS..   N such programs, OUT.1 to OUT.N, that differ in the order of their objects
 set -u
 
@@ -117,6 +118,14 @@ build_for_here() {
     cc -o "$out" $objects $archives
 }
 
+join_for_here() {
+    name=$2 out=$1
+    shift 2
+    compile_each compile_by_kit_for_here "$out" "$@"
+    # shellcheck disable=SC2086
+    cc -r -nostdlib -o "$out" $objects && objcopy "--keep-global-symbol=$name" "$out"
+}
+
 # From one program to the next the first object goes last, so that each function lies elsewhere.
 build_orders_for_here() {
     orders=$1 order=1
@@ -168,6 +177,7 @@ aarch64-run) run_emulated "$@" ;;
 *-kit-build) build_for_x86 compile_by_kit "$@" ;;
 *-kit-count) count_by_plugin "$@" ;;
 *-own-build) build_for_here "$@" ;;
+*-own-joined) join_for_here "$@" ;;
 *-own-orders) build_orders_for_here "$@" ;;
 *) die "no way is known to do '$what' on $machine" ;;
 esac

@@ -48,6 +48,51 @@ void sound_heap(struct state *s) {
   for (r = 0; r < s->root_count; r++) s->roots[r] = value();
 }
 
+static void write_object(struct state *s, uint32_t end, uint32_t n, uint32_t kind) {
+  if (s->free >= end) return;
+  if (n + 1 > end - s->free) n = end - s->free - 1;
+  s->heap[s->free] = kind << 31 | 2 * n;
+  objects[object_count++] = s->free;
+  s->free += n + 1;
+}
+
+/* Some objects of one sort: pairs; all alike; of any size, with and without raw ones; raw words between pairs; long. */
+static void write_stretch(struct state *s, uint32_t end) {
+  uint32_t i, sort = below(6), count = 1 + below(one_in(4) ? 200 : 12), n = below(9), kind = one_in(4);
+  for (i = 0; i < count && s->free < end; i++) switch (sort) {
+    case 0: write_object(s, end, 2, 0); break;
+    case 1: write_object(s, end, n, kind); break;
+    case 2: write_object(s, end, below(7), 0); break;
+    case 3: write_object(s, end, below(10), one_in(4)); break;
+    case 4:
+      write_object(s, end, 5 + below(36), 1);
+      write_object(s, end, 2, 0);
+      break;
+    default:
+      write_object(s, end, 50 + below(300), kind);
+      i += 20;
+    }
+}
+
+/* A long object may hold numbers and nulls only: no word of it is looked up then. */
+static void write_long_fields(struct state *s, uint32_t at) {
+  uint32_t header = s->heap[at], k, n = (header & 0x7fffffffu) / 2;
+  write_fields(s, at);
+  if (n < 50 || header >> 31 || one_in(2)) return;
+  for (k = 1; k <= n; k++) s->heap[at + k] = one_in(2) ? 0 : (uint32_t)random_bits() | 1;
+}
+
+void stretched_heap(struct state *s) {
+  uint32_t size = half_of(s), used = one_in(3) ? size : below(size + 1), i;
+  size_t r;
+  memset(s->heap, 0, s->words * sizeof s->heap[0]);
+  s->free = s->half == 0 ? 1 : size + 1;
+  object_count = 0;
+  for (i = s->free + used; s->free < i;) write_stretch(s, i);
+  for (i = 0; i < object_count; i++) write_long_fields(s, objects[i]);
+  for (r = 0; r < s->root_count; r++) s->roots[r] = value();
+}
+
 /* A bit of a word, or all of it, mostly of the used part. */
 static void spoil(struct state *s) {
   uint32_t at = one_in(3) || s->free >= s->words ? below((uint32_t)s->words) : below(s->free + 1);

@@ -120,17 +120,12 @@ static void show_met(void) {
   printf("\n");
 }
 
-struct counted {
-  const char *name;
-  const uint64_t *met;
-};
-
-static void show_each(const char *of, const struct counted *each, size_t count, uint64_t least) {
+void judge_met(const char *of, const struct counted *each, size_t count, uint64_t least) {
   size_t i;
   printf("check-c: %s, each at least %" PRIu64, of, least);
   for (i = 0; i < count; i++) {
     printf("%s %s %" PRIu64, i == 0 ? ":" : ",", each[i].name, *each[i].met);
-    expect(*each[i].met >= least, "an answer was met too seldom");
+    expect(*each[i].met >= least, "something was met too seldom");
   }
   printf("\n");
 }
@@ -146,7 +141,7 @@ static void show_met_of_code(uint64_t least) {
                                         {"raw_read on code OBJECT", &met_on_code[RAW_READ][5]},
                                         {"raw_write on code OBJECT", &met_on_code[RAW_WRITE][5]},
                                         {"open on code OBJECT", &met_on_code[OPEN][5]}};
-  show_each("code words", each, sizeof each / sizeof each[0], least);
+  judge_met("code words", each, sizeof each / sizeof each[0], least);
 }
 
 /* What collect can say: its numbers tell little of heaps where nothing is live, or nothing shared. */
@@ -156,7 +151,7 @@ static void show_met_of_collect(uint64_t least) {
                                         {"with shared ones", &shared_objects},
                                         {"SHAPE", &met_by[COLLECT][1]},
                                         {"DAMAGED", &met_by[COLLECT][8]}};
-  show_each("collect", each, sizeof each / sizeof each[0], least);
+  judge_met("collect", each, sizeof each / sizeof each[0], least);
 }
 
 /* What write and read can say; and each fault of a value that stands where the bytes run out too, and must come
@@ -181,7 +176,7 @@ static void show_met_of_texts(uint64_t least) {
                                         {"DEEP", &met_by[READ][11]},
                                         {"DAMAGED", &met_by[READ][8]},
                                         {"ROOM", &met_by[READ][9]}};
-  show_each("texts", each, sizeof each / sizeof each[0], least);
+  judge_met("texts", each, sizeof each / sizeof each[0], least);
 }
 
 int judge_verdict(uint64_t seed, uint64_t least) {

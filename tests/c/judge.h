@@ -27,6 +27,13 @@ int judge_verdict(uint64_t seed, uint64_t least);
 
 uint64_t judge_calls(void);
 
+/* Says how often each was met, and expects it `least` times. */
+struct counted {
+  const char *name;
+  const uint64_t *met;
+};
+void judge_met(const char *of, const struct counted *each, size_t count, uint64_t least);
+
 /* A call on the archive alone, counted. */
 struct said archive_alone(struct state *s, const struct call *c);
 

@@ -21,6 +21,7 @@ int main(int argc, char **argv) {
   struct_begin();
   limits();
   bit_flips();
+  checking((uint32_t)(calls / 10000) + 1);
   writing();
   reading((uint32_t)(calls / 500) + 100);
   sessions((uint32_t)(calls / 20000) + 2);

@@ -10,6 +10,7 @@ void each_refusal(void);                  /* refusals.c: each by name, by each c
 void struct_begin(void);                  /* begin.c: the header's struct, lent and cleared */
 void limits(void);                        /* limits.c: each at its value, one below, one above */
 void bit_flips(void);                     /* flips.c: every single bit of P5 */
+void checking(uint32_t words);            /* checking.c: one word changed, anywhere; all heaps of S = 1 and 2 */
 void writing(void);                       /* writing.c: texts of every shape, in every number of bytes */
 void reading(uint32_t texts);             /* reading.c: texts of every shape, broken in every way, and round trips */
 void sessions(uint32_t lists);            /* sessions.c: two sizes, the graph, a collection between any two calls */

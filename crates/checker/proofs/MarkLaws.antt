@@ -1,41 +1,48 @@
--- What the marks are: where the headers of the tiling stand, and nowhere else; and the used words stay. For any layout.
+-- What the marks are: they stand where the headers of the tiling do and nowhere else, and the used words stay. For any layout.
 use Prim.Native.Nat.{ℕ, zero, suc, _+_, _≤_, _<_}
 use native.Mathlib.Omega.{arith}
 use mathlib.Core.Path.{_≡_, refl, sym, ap, _∙_}
-use mathlib.Core.Logic.{inl, inr, ⊎-elim}
-use mathlib.Core.Bool.{true, false, _&&_, _||_, or-true}
+use mathlib.Core.Logic.{inr, ⊎-elim}
+use mathlib.Core.Bool.{Bool, true, false, _&&_, _||_}
 use mathlib.Core.List.{List}
 use lib.Dec.{eqb, ltb}
 use lib.ListN.{length, set, drop, length-set, length-take, length-drop}
-use lib.Seq.{getD-set-same, getD-set-other, getD-take, getD-drop, ext-getD}
-use borrow.Author.Tests.{ltb-true, ltb-false, eq-eqb, ne-eqb}
+use lib.Seq.{getD-set-other, getD-take, getD-drop, ext-getD}
+use borrow.Author.Tests.{ltb-true, ltb-false, ne-eqb}
 use Rattle.model.specs.Discovery.{mem}
 use Rattle.model.specs.Headers.{Layout}
 use Rattle.model.specs.Objects.{size, fieldCount, fieldWords}
 use Rattle.model.specs.Soundness.{tiles, headersFrom}
 use Rattle.model.specs.Words.{at}
 use Rattle.theory.proofs.Retiling.{tiles-same}
-use Rattle.theory.proofs.Tests.{by-test, same?}
+use Rattle.theory.proofs.Tests.{by-test}
 use Rattle.theory.proofs.Tiling.{tiles-step, headers-tile}
 use Rattle.theory.proofs.Walks.{tiles-past}
-use Rattle.runs.specs.Runs.{run, Apart}
-use Rattle.runs.proofs.RunLaws.{Outside}
+use Rattle.runs.specs.Runs.{run}
 use Rattle.checker_marks.specs.declared.Part.{Part}
-use Rattle.checker_marks.specs.Marks.{usedWords, markAt, Marking, markHeaders, isTiledPart, headersOf}
+use Rattle.checker_marks.specs.Marks.{usedWords, markAt, HoldsMarks, mark, isMarked, marksOf, Marking, markHeaders}
+use Rattle.checker_marks.specs.Marks.{isTiledFrom}
+use Rattle.checker_marks.proofs.MarkBits.{mark-one}
 use Rattle.checker_marks.proofs.Turns.{mark-ended}
+
+or-turned : (a b c : Bool) → (a || (b || c)) ≡ ((b || a) || c)
+or-turned true true c = refl
+or-turned true false c = refl
+or-turned false true c = refl
+or-turned false false c = refl
 
 module _ (Y : Layout) (p : Part) where
   -- the used words are the same
   abbrev pub Agree : List ℕ → List ℕ → Type 0
   Agree H′ H = (j : ℕ) → p .first .0 ≤ j → j < p .free .0 → at H′ j ≡ at H j
 
-  -- k is no mark's place
-  abbrev pub NoMark : ℕ → Type 0
-  NoMark k = Outside (p .marks .0) (usedWords p) k
+  -- no used word holds marks
+  abbrev pub UsedApart : Type 0
+  UsedApart = (k : ℕ) → p .first .0 ≤ k → k < p .free .0 → HoldsMarks p k → ⊥
 
-  mark-there : (i k : ℕ) → p .first .0 ≤ i → i < p .free .0 → NoMark k → k ≡ markAt p i → ⊥
-  mark-there i k l m o e =
-      ⊎-elim (λ (u : k < p .marks .0). omega arith) (λ (u : p .marks .0 + usedWords p ≤ k). omega arith) o
+  -- the marks of used words stand where marks may
+  mark-there : (i k : ℕ) → p .first .0 ≤ i → i < p .free .0 → (HoldsMarks p k → ⊥) → k ≡ markAt p i → ⊥
+  mark-there i k l m o e = o (inr (omega arith, omega arith))
 
   pub mark-length : (n : ℕ) (H : List ℕ) (i : ℕ) → length (markHeaders Y n H p i .heap) ≡ length H
   unfolding markHeaders
@@ -43,12 +50,12 @@ module _ (Y : Layout) (p : Part) where
   mark-length (suc n) H i =
       ⊎-elim
       (λ (e : (ltb i (p .free .0) && Y .isHeader (at H i)) ≡ true).
-      rw e (mark-length n (set H (markAt p i) 1) (i + size Y H i) ∙ length-set H (markAt p i) 1))
+      rw e (mark-length n (mark H p i) (i + size Y H i) ∙ length-set H (markAt p i) _))
       (λ (e : (ltb i (p .free .0) && Y .isHeader (at H i)) ≡ false). rw e)
       (by-test (ltb i (p .free .0) && Y .isHeader (at H i)))
 
-  -- only the marks' places change
-  pub mark-outside : (n : ℕ) (H : List ℕ) (i k : ℕ) → p .first .0 ≤ i → NoMark k
+  -- only words that hold marks change
+  pub mark-outside : (n : ℕ) (H : List ℕ) (i k : ℕ) → p .first .0 ≤ i → (HoldsMarks p k → ⊥)
       → at (markHeaders Y n H p i .heap) k ≡ at H k
   unfolding markHeaders
   mark-outside zero H i k l o = refl
@@ -57,8 +64,8 @@ module _ (Y : Layout) (p : Part) where
       (λ (d : ltb i (p .free .0) ≡ true).
       ⊎-elim
       (λ (b : Y .isHeader (at H i) ≡ true).
-      rw (d, b) (mark-outside n (set H (markAt p i) 1) (i + size Y H i) k (omega arith) o
-      ∙ getD-set-other H (markAt p i) k 1 0 (mark-there i k l (ltb-true i (p .free .0) d) o)))
+      rw (d, b) (mark-outside n (mark H p i) (i + size Y H i) k (omega arith) o
+      ∙ getD-set-other H (markAt p i) k _ 0 (mark-there i k l (ltb-true i (p .free .0) d) o)))
       (λ (b : Y .isHeader (at H i) ≡ false). rw (d, b))
       (by-test (Y .isHeader (at H i))))
       (λ (d : ltb i (p .free .0) ≡ false). rw d)
@@ -69,7 +76,9 @@ module _ (Y : Layout) (p : Part) where
   size-agree H′ H i e = ap (λ (w : ℕ). Y .countOf w + 1) e
 
   module _ (H′ H : List ℕ) (agree : Agree H′ H) where
-    pub tiles-agree : isTiledPart Y H p ≡ true → (isTiledPart Y H′ p ≡ true) × (headersOf Y H′ p ≡ headersOf Y H p)
+    pub tiles-agree : isTiledFrom Y H (p .free .0) (p .first .0) ≡ true
+        → (isTiledFrom Y H′ (p .free .0) (p .first .0) ≡ true)
+        × (headersFrom Y H′ (p .free .0) (usedWords p) (p .first .0) ≡ headersFrom Y H (p .free .0) (usedWords p) (p .first .0))
     tiles-agree t =
         tiles-same Y H H′ (p .free .0) (usedWords p) (p .first .0) t
         (λ j m.
@@ -92,20 +101,17 @@ module _ (Y : Layout) (p : Part) where
         ap (λ (w : ℕ). run H′ (i + 1) (Y .countOf w)) (agree i l (omega arith))
         ∙ run-agree s (i + 1) (fieldCount Y H i) (omega arith) (omega arith)
 
-  module _ (apart : Apart (p .first .0) (p .marks .0) (usedWords p)) where
-    -- a used word is no mark's place
-    used-unmarked : (k : ℕ) → p .first .0 ≤ k → k < p .free .0 → NoMark k
-    used-unmarked k l m =
-        ⊎-elim
-        (λ (a : p .first .0 + usedWords p ≤ p .marks .0). inl (omega arith))
-        (λ (a : p .marks .0 + usedWords p ≤ p .first .0). inr (omega arith))
-        apart
+  module _ (apart : UsedApart) where
+    pub set-agree : (H′ H : List ℕ) (k w : ℕ) → HoldsMarks p k → Agree H′ H → Agree (set H′ k w) H
+    set-agree H′ H k w o g j a b =
+        getD-set-other H′ k j w 0 (λ (e : j ≡ k). apart j a b (rw e o)) ∙ g j a b
 
-    pub mark-agree : (n : ℕ) (H : List ℕ) (i : ℕ) → p .first .0 ≤ i → Agree (markHeaders Y n H p i .heap) H
-    mark-agree n H i l k a b = mark-outside n H i k l (used-unmarked k a b)
+    -- one more mark
+    mark-agree : (H′ H : List ℕ) (i : ℕ) → p .first .0 ≤ i → i < p .free .0 → Agree H′ H → Agree (mark H′ p i) H
+    mark-agree H′ H i l m g = set-agree H′ H (markAt p i) _ (inr (omega arith, omega arith)) g
 
-    set-agree : (H′ H : List ℕ) (i : ℕ) → p .first .0 ≤ i → i < p .free .0 → Agree H′ H → Agree (set H′ (markAt p i) 1) H
-    set-agree H′ H i l m g k a b = getD-set-other H′ (markAt p i) k 1 0 (mark-there i k l m (used-unmarked k a b)) ∙ g k a b
+    pub marks-agree : (n : ℕ) (H : List ℕ) (i : ℕ) → p .first .0 ≤ i → Agree (markHeaders Y n H p i .heap) H
+    marks-agree n H i l k a b = mark-outside n H i k l (apart k a b)
 
     -- marking stops at the free index exactly where objects tile the words
     pub mark-stop : (H : List ℕ) (n : ℕ) (H′ : List ℕ) (i : ℕ) → p .first .0 ≤ i → Agree H′ H
@@ -120,7 +126,7 @@ module _ (Y : Layout) (p : Part) where
         ⊎-elim
         (λ (b : Y .isHeader (at H i) ≡ true).
         rw (size-agree H′ H i (g i l t), g i l t, d, b, no)
-        (mark-stop H n (set H′ (markAt p i) 1) (i + size Y H i) (omega arith) (set-agree H′ H i l t g)))
+        (mark-stop H n (mark H′ p i) (i + size Y H i) (omega arith) (mark-agree H′ H i l t g)))
         (λ (b : Y .isHeader (at H i) ≡ false). rw (g i l t, d, b, no))
         (by-test (Y .isHeader (at H i))))
         (λ (d : ltb i (p .free .0) ≡ false).
@@ -130,23 +136,21 @@ module _ (Y : Layout) (p : Part) where
 
     -- and then the marks stand at the headers, besides those that stood before
     pub mark-marks : (H : List ℕ) (n : ℕ) (H′ : List ℕ) (i x : ℕ) → p .first .0 ≤ i → Agree H′ H
-        → tiles Y H (p .free .0) n i ≡ true
-        → p .marks .0 + usedWords p ≤ length H′ → p .first .0 ≤ x → x < p .free .0
-        → eqb (at (markHeaders Y n H′ p i .heap) (markAt p x)) 1 ≡ (mem x (headersFrom Y H (p .free .0) n i) || eqb (at H′ (markAt p x)) 1)
+        → tiles Y H (p .free .0) n i ≡ true → markAt p (p .free .0) < length H′
+        → isMarked (marksOf (markHeaders Y n H′ p i .heap) p) x
+        ≡ (mem x (headersFrom Y H (p .free .0) n i) || isMarked (marksOf H′ p) x)
     unfolding headersFrom markHeaders mem
-    mark-marks H zero H′ i x l g t w a b = refl
-    mark-marks H (suc n) H′ i x l g t w a b =
+    mark-marks H zero H′ i x l g t w = refl
+    mark-marks H (suc n) H′ i x l g t w =
         ⊎-elim
         (λ (d : ltb i (p .free .0) ≡ true).
         let m : i < p .free .0 = ltb-true i (p .free .0) d in
         let s = tiles-step Y H (p .free .0) n i t m in
         let hs = headersFrom Y H (p .free .0) n (i + size Y H i) in
         rw (size-agree H′ H i (g i l m), g i l m, d, s .0)
-        (mark-marks H n (set H′ (markAt p i) 1) (i + size Y H i) x (omega arith) (set-agree H′ H i l m g) (s .1)
-        (rw (length-set H′ (markAt p i) 1) w) a b
-        ∙ ⊎-elim
-        (λ (e : x ≡ i). rw (e, getD-set-same H′ (markAt p i) 1 0 (omega arith), eq-eqb i i refl) (or-true (mem i hs)))
-        (λ (e : x ≡ i → ⊥). rw (getD-set-other H′ (markAt p i) (markAt p x) 1 0 (omega arith), ne-eqb x i e))
-        (same? x i)))
+        (mark-marks H n (mark H′ p i) (i + size Y H i) x (omega arith) (mark-agree H′ H i l m g) (s .1)
+        (rw (length-set H′ (markAt p i) _) w)
+        ∙ ap (λ (b : Bool). mem x hs || b) (mark-one H′ p i x (omega arith))
+        ∙ or-turned (mem x hs) (eqb x i) (isMarked (marksOf H′ p) x)))
         (λ (d : ltb i (p .free .0) ≡ false). rw d)
         (by-test (ltb i (p .free .0)))

@@ -1,10 +1,10 @@
 -- A law for each return of the functions that only call others, over what those answered.
-use Prim.Native.Nat.{ℕ, _+_, _-_, _≤_}
+use Prim.Native.Nat.{ℕ, _+_, _-_, _%_, _≤_}
 use native.Mathlib.Omega.{arith}
 use mathlib.Core.Path.{_≡_, sym, ap, _∙_, subst}
 use mathlib.Core.Bool.{Bool, true, false, _&&_}
 use mathlib.Core.List.{List}
-use lib.ListN.{length}
+use lib.ListN.{length, take, length-drop}
 use lib.Seq.{take-length}
 use borrow.Author.Tests.{eq-eqb, ne-eqb}
 use Rattle.model.specs.declared.Answer.the-variants as Says
@@ -16,15 +16,14 @@ use Rattle.model.specs.Calls.{check}
 use Rattle.model.specs.Headers.{Layout}
 use Rattle.model.specs.Shape.{badShape}
 use Rattle.model.specs.Soundness.{all, allZero, sound}
-use Rattle.model.specs.Values.{isNull}
+use Rattle.model.specs.Values.{isOdd, isNull}
 use Rattle.model.specs.Words.{stateOf, at, halfWords, other, firstOf}
-use Rattle.runs.specs.Runs.{run, cleared, Apart}
+use Rattle.runs.specs.Runs.{run}
 use Rattle.checker_marks.specs.declared.Part.{Part}
-use Rattle.checker_marks.specs.Marks.{Fits, Halves, part, usedWords, partOf, Marking, marking, marked, isZeroAround}
-use Rattle.checker_marks.specs.Marks.{isValueByMarks, fieldsAreValuesByMarks, isTiledPart, headersOf, allAreValuesByMarks}
-use Rattle.checker_marks.specs.Marks.{usedPartSound}
-use Rattle.checker.proofs.SoundByMarks.{lengths, stop-is, marked-tiled, halves, fits, apart, sound-dirty}
-use Rattle.checker.proofs.SoundByMarks.{sound-clean, heap-restored}
+use Rattle.checker_marks.specs.Marks.{part, marksOf, clearedMarks, Marking, marking, marked, isValueByMarks, areValuesFrom}
+use Rattle.checker.specs.ByMarks.{Halves, Markable, Judgeable, partOf, isZeroAround, allAreValuesByMarks, usedPartSound}
+use Rattle.checker.proofs.SoundByMarks.{stop-is, judgeable, halves, markable, sound-dirty, sound-clean}
+use Rattle.checker.proofs.SoundByMarks.{heap-restored}
 
 -- ---- the part of a record
 pub part-is : (S : ℕ) (q : Record) (i m : ℕ) (f : Half) → i ≡ firstOf S (q .half) → f ≡ other (q .half) → m ≡ firstOf S f
@@ -60,42 +59,38 @@ module _ (H : List ℕ) (p : Part) (S : ℕ) where
         g ∙ ap (λ (k : ℕ). all isNull (run H (p .free .0) k)) rest ∙ sym (around-idle z true (sym d ∙ idle-is))
 
 -- ---- all roots, then all fields
+
+-- the words from the first mark's on, as they are lent
+pub marks-lent : (H : List ℕ) (p : Part) → take (length H - p .marks .0) (marksOf H p) ≡ marksOf H p
+marks-lent H p =
+    ap (λ (n : ℕ). take n (marksOf H p)) (sym (length-drop (p .marks .0) H)) ∙ take-length (marksOf H p)
+
 module _ (Y : Layout) (H roots : List ℕ) (p : Part) where
-  -- n roots were tested, with the answer b
-  module _ (n : ℕ) (within : 0 + n ≤ length roots) (b : Bool)
-      (e : b ≡ all (isValueByMarks Y H p) (run roots 0 n)) (count : n ≡ length roots) where
-    roots-are : b ≡ all (isValueByMarks Y H p) roots
-    roots-are = e ∙ ap (λ (l : List ℕ). all (isValueByMarks Y H p) l) (ap (run roots 0) count ∙ take-length roots)
+  -- the roots were judged, with the verdict v
+  module _ (v : ℕ) (e : isOdd v ≡ all (isValueByMarks Y (marksOf H p) (p .free .0)) (run roots 0 (length roots))) where
+    roots-are : isOdd v ≡ all (isValueByMarks Y (marksOf H p) (p .free .0)) roots
+    roots-are = e ∙ ap (all (isValueByMarks Y (marksOf H p) (p .free .0))) (take-length roots)
 
-    pub values-bad : b ≡ false → false ≡ allAreValuesByMarks Y H roots p
+    pub values-bad : v % 2 ≡ 0 → false ≡ allAreValuesByMarks Y H roots p
     unfolding allAreValuesByMarks
-    values-bad d = rw (← (sym d ∙ roots-are))
+    values-bad d = let no : isOdd v ≡ false = rw d in rw (← roots-are, no)
 
-    pub values-good : b ≡ true → (r : Bool) → r ≡ all (fieldsAreValuesByMarks Y H p) (headersOf Y H p)
+    pub values-good : (v % 2 ≡ 0 → ⊥) → (r : Bool) → r ≡ areValuesFrom Y (marksOf H p) (p .free .0) H (p .first .0)
         → r ≡ allAreValuesByMarks Y H roots p
     unfolding allAreValuesByMarks
-    values-good d r g = rw (← (sym d ∙ roots-are)) g
+    values-good d r g = let yes : isOdd v ≡ true = eq-eqb (v % 2) 1 (omega arith) in rw (← roots-are, yes) g
 
 -- ---- what marking left
 module _ (Y : Layout) (H : List ℕ) (p : Part) (H′ : List ℕ) (stop : ℕ) (is : marking H′ stop ≡ marked Y H p) where
   pub left-heap : H′ ≡ marked Y H p .heap
   left-heap = ap (λ (m : Marking). m .heap) is
 
-  -- what was marked to the end lies in the heap and is tiled
-  pub marked-fits : Fits H p → Apart (p .first .0) (p .marks .0) (usedWords p) → stop ≡ p .free .0
-      → Fits H′ p × (isTiledPart Y H′ p ≡ true)
-  marked-fits f a e =
-      let s : length H′ ≡ length H = ap length left-heap ∙ lengths Y H p f a in (
-        record {
-          start = f .start;
-          used = omega (arith, f .used);
-          most = omega (arith, f .most);
-          marks = omega (arith, f .marks);
-        },
-        rw left-heap
-            (marked-tiled Y H p f a
-            (sym (stop-is Y H p f a) ∙ eq-eqb (marked Y H p .stop) (p .free .0) (sym (ap (λ (m : Marking). m .stop) is) ∙ e))),
-      )
+  -- what was marked to the end can be judged
+  pub marked-whole : Markable H p → stop ≡ p .free .0 → Judgeable Y H′ p
+  marked-whole can e =
+      rw left-heap
+      (judgeable Y H p can
+      (sym (stop-is Y H p can) ∙ eq-eqb (marked Y H p .stop) (p .free .0) (sym (ap (λ (m : Marking). m .stop) is) ∙ e)))
 
   pub stopped-short : (roots : List ℕ) → (stop ≡ p .free .0 → ⊥) → false ≡ usedPartSound Y H roots p
   unfolding usedPartSound
@@ -116,25 +111,26 @@ module _ (Y : Layout) (H roots : List ℕ) (q : Record) where
     pub part-halves : Halves H p (halfWords H)
     part-halves = subst (λ (p : Part). Halves H p (halfWords H)) (sym is) (halves Y (stateOf H roots q) fair)
 
-    pub part-fits : Fits H p × Apart (p .first .0) (p .marks .0) (usedWords p)
-    part-fits =
-        subst (λ (p : Part). Fits H p × Apart (p .first .0) (p .marks .0) (usedWords p)) (sym is)
-        (fits Y (stateOf H roots q) fair, apart Y (stateOf H roots q) fair)
-
     pub unsound-around : false ≡ isZeroAround H p (halfWords H) → false ≡ sound Y (stateOf H roots q)
     unsound-around d =
         sym (sound-dirty Y (stateOf H roots q) fair (sym (d ∙ ap (λ (p : Part). isZeroAround H p (halfWords H)) is)))
 
-    pub sound-used : true ≡ isZeroAround H p (halfWords H) → (r : Bool) (H′ : List ℕ)
-        → r ≡ usedPartSound Y H roots p → H′ ≡ cleared (marked Y H p .heap) (p .marks .0) (usedWords p)
-        → (r ≡ sound Y (stateOf H roots q)) × (H′ ≡ H)
-    sound-used d r H′ a b =
-        let c : isZeroAround H (partOf (halfWords H) q) (halfWords H) ≡ true =
-        sym (d ∙ ap (λ (p : Part). isZeroAround H p (halfWords H)) is) in (
-          a ∙ ap (λ (p : Part). usedPartSound Y H roots p) is ∙ sym (sound-clean Y (stateOf H roots q) fair c),
-          b ∙ ap (λ (p : Part). cleared (marked Y H p .heap) (p .marks .0) (usedWords p)) is
-              ∙ heap-restored Y (stateOf H roots q) fair c,
-        )
+    -- nothing stands around it
+    module _ (d : true ≡ isZeroAround H p (halfWords H)) where
+      clean : isZeroAround H (partOf (halfWords H) q) (halfWords H) ≡ true
+      clean = sym (d ∙ ap (λ (p : Part). isZeroAround H p (halfWords H)) is)
+
+      pub part-markable : Markable H p
+      part-markable = subst (λ (p : Part). Markable H p) (sym is) (markable Y (stateOf H roots q) fair clean)
+
+      pub sound-used : Y .ahead ≡ 0 → (r : Bool) (H′ : List ℕ)
+          → r ≡ usedPartSound Y H roots p → H′ ≡ clearedMarks (marked Y H p .heap) p
+          → (r ≡ sound Y (stateOf H roots q)) × (H′ ≡ H)
+      sound-used near r H′ a b = (
+        a ∙ ap (λ (p : Part). usedPartSound Y H roots p) is ∙ sym (sound-clean Y (stateOf H roots q) fair clean near),
+        b ∙ ap (λ (p : Part). clearedMarks (marked Y H p .heap) p) is
+            ∙ heap-restored Y (stateOf H roots q) fair clean,
+      )
 
   -- ---- the call check
   pub check-refused : badShape (stateOf H roots q) ≡ true

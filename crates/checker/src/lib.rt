@@ -1,68 +1,45 @@
-// The soundness check: linear in the words, and with no memory of its own. Each header is marked in the idle
-// half, which has to be 0; roots and fields are held against the marks; then the marks are cleared, so that
-// no word differs.
+// The soundness check: linear in the words, and with no memory of its own. Each header is marked by a bit in
+// the idle half, which has to be 0; roots and fields are held against the marks; then the marks are cleared,
+// so that no word differs.
 ghost use mathlib.Core.Path.{_≡_};
-ghost use mathlib.Core.Bool.{true};
 ghost use Prim.Native.Nat.{_≤_};
 ghost use Rattle.model.specs.Contracts.{lent, outcome};
 ghost use Rattle.model.specs.Calls as Calls;
 ghost use Rattle.model.specs.Headers.{tuple};
 ghost use Rattle.model.specs.Limits.{maxHalf};
-ghost use Rattle.model.specs.Soundness.{all, sound};
-ghost use Rattle.runs.specs.Runs.{cleared, Apart};
-ghost use Rattle.checker_marks.specs.Marks.{Fits, Halves, usedWords, partOf, marked, isTiledPart, headersOf};
-ghost use Rattle.checker_marks.specs.Marks.{isZeroAround, fieldsAreValuesByMarks, allAreValuesByMarks};
-ghost use Rattle.checker_marks.specs.Marks.{usedPartSound};
+ghost use Rattle.model.specs.Soundness.{sound};
+ghost use Rattle.checker_marks.specs.Marks.{marked, clearedMarks};
+ghost use Rattle.checker.specs.ByMarks.{Halves, Markable, Judgeable, partOf, isZeroAround};
+ghost use Rattle.checker.specs.ByMarks.{allAreValuesByMarks, usedPartSound};
+use checker_fields::are_all_fields_values;
 use checker_marks::Part;
-use checker_marks::are_values;
+use checker_marks::clear_marks;
 use checker_marks::mark_headers;
+use checker_values::judge_words;
 use model::Answer;
 use model::Answered;
 use model::Record;
 use model::Refusal;
 use model::say;
 use words::shape;
-use words::tuple::Tuple;
 
-// Whether the fields of each traced object of the part are values. The two kinds are passed apart: a traced
-// header is its count twice, so that the next index waits for less.
-fn all_fields_are_values(heap: &[u32], part: Part) -> bool
-    requires { ⌜ Fits (now heap) part × (isTiledPart tuple (now heap) part ≡ true) ⌝ }
-    ensures { λ r. ⌜ r
-        ≡ all (fieldsAreValuesByMarks tuple (now (heap .entry)) part)
-        (headersOf tuple (now (heap .entry)) part) ⌝ }
-{
-    let free = part.free.0;
-    let mut at = part.first.0;
-    while at < free {
-        let header = heap[at];
-        if Tuple::is_traced(header) {
-            let n = Tuple::count_of(header);
-            if !are_values(heap, at + 1, n, heap, part) {
-                return false;
-            }
-            at = at + 1 + n;
-        } else {
-            at = at + 1 + Tuple::count_of(header);
-        }
-    }
-    true
-}
-
-// The same of the roots too. The headers are marked.
+// Whether each root and each field is a value. The headers are marked.
 fn all_are_values(heap: &[u32], roots: &[u32], part: Part) -> bool
-    requires { ⌜ Fits (now heap) part × (isTiledPart tuple (now heap) part ≡ true) ⌝ }
+    requires { ⌜ Judgeable tuple (now heap) part ⌝ }
     ensures { λ r. ⌜ r ≡ allAreValuesByMarks tuple (now (heap .entry)) (now (roots .entry)) part ⌝ }
 {
-    if !are_values(roots, 0, roots.len(), heap, part) {
+    let free = part.free.0;
+    let from = part.marks.0;
+    let marks = &heap[from..];
+    if judge_words(roots, 0, roots.len(), marks, free) % 2 == 0 {
         return false;
     }
-    all_fields_are_values(heap, part)
+    are_all_fields_values(heap, part.first.0, marks, free)
 }
 
 // Whether objects tile the part, and each root and each field is a value. Leaves the marks.
 fn mark_and_test(heap: &mut [u32], roots: &[u32], part: Part) -> bool
-    requires { ⌜ Fits (now heap) part × Apart (part .first .0) (part .marks .0) (usedWords part) ⌝ }
+    requires { ⌜ Markable (now heap) part ⌝ }
     ensures { λ r. ⌜ (r ≡ usedPartSound tuple (now (heap .entry)) (now (roots .entry)) part)
         × (now (heap .exit) ≡ marked tuple (now (heap .entry)) part .heap) ⌝ }
 {
@@ -75,15 +52,12 @@ fn mark_and_test(heap: &mut [u32], roots: &[u32], part: Part) -> bool
 
 // The same, and the marks are cleared.
 fn is_used_part_sound(heap: &mut [u32], roots: &[u32], part: Part) -> bool
-    requires { ⌜ Fits (now heap) part × Apart (part .first .0) (part .marks .0) (usedWords part) ⌝ }
+    requires { ⌜ Markable (now heap) part ⌝ }
     ensures { λ r. ⌜ (r ≡ usedPartSound tuple (now (heap .entry)) (now (roots .entry)) part)
-        × (now (heap .exit)
-        ≡ cleared (marked tuple (now (heap .entry)) part .heap) (part .marks .0) (usedWords part)) ⌝ }
+        × (now (heap .exit) ≡ clearedMarks (marked tuple (now (heap .entry)) part .heap) part) ⌝ }
 {
-    let marks = part.marks.0;
-    let used_words = part.free.0 - part.first.0;
     let sound = mark_and_test(heap, roots, part);
-    runs::clear(heap, marks, used_words);
+    clear_marks(heap, part);
     sound
 }
 

@@ -1,52 +1,21 @@
--- How the walk that marks and the walk over a run of words go on from one turn to the next, and one word
--- and one object held against the marks, case by case.
-use Prim.Native.Nat.{ℕ, zero, suc, _+_, _-_, _%_, _≤_, _<_}
+-- How the walk that marks goes on from one turn to the next, and that no word behind a mark's is touched by it.
+use Prim.Native.Nat.{ℕ, zero, suc, _+_, _*_, _-_, _/_, _%_, _^_, _≤_, _<_}
+use native.Mathlib.Nat.{one-mul}
 use native.Mathlib.Omega.{arith}
 use mathlib.Core.Path.{_≡_, refl, sym, ap, _∙_}
-use mathlib.Core.Logic.{⊎-elim}
-use mathlib.Core.Bool.{Bool, true, false, not, _&&_, or-false}
-use mathlib.Core.List.{List, _∷_}
-use lib.Dec.{eqb, ltb, leb}
-use lib.ListN.{length, set, take}
-use lib.Seq.{drop-cons}
-use borrow.Author.Tests.{ltb-true, leb-true, lt-ltb, le-ltb, ne-eqb}
-use Rattle.theory.proofs.Tests.{decide, and-both}
-use Rattle.theory.proofs.WordSorts.{parts-address, odd-no-address, parts-code, code-no-address, address-no-code}
-use Rattle.model.specs.Headers.{Layout, Adjacent}
-use Rattle.model.specs.Limits.{codeFloor}
-use Rattle.model.specs.Objects.{isTraced, index, kind, fieldCount, size}
-use Rattle.model.specs.Soundness.{all}
-use Rattle.model.specs.Values.{isAddress, isCode}
+use mathlib.Core.Bool.{true, false}
+use mathlib.Core.List.{List}
+use lib.Bits.{bitOr}
+use lib.ListN.{length, set}
+use lib.Pow.{shl-exact}
+use lib.Seq.{getD-set-other}
+use borrow.Author.Tests.{lt-ltb, le-ltb}
+use Rattle.theory.proofs.Tests.{never}
+use Rattle.model.specs.Headers.{Layout}
+use Rattle.model.specs.Objects.{size}
 use Rattle.model.specs.Words.{at}
-use Rattle.runs.specs.Runs.{run}
 use Rattle.checker_marks.specs.declared.Part.{Part}
-use Rattle.checker_marks.specs.Marks.{Fits, usedWords, markAt, marking, markHeaders, markedFrom}
-use Rattle.checker_marks.specs.Marks.{isValueByMarks, fieldsAreValuesByMarks}
-
--- ---- a run of words, tested one after the other
-module _ (q : ℕ → Bool) (l : List ℕ) (from n i : ℕ) where
-  run-next : i < n → from + n ≤ length l → run l (from + i) (n - i) ≡ at l (from + i) ∷ run l (from + (i + 1)) (n - (i + 1))
-  run-next more fits =
-      let s : n - i ≡ suc (n - (i + 1)) = omega arith in
-      let t : suc (from + i) ≡ from + (i + 1) = omega arith in
-      ap (run l (from + i)) s
-      ∙ ap (take (suc (n - (i + 1)))) (drop-cons l (from + i) 0 (omega arith))
-      ∙ ap (λ (k : ℕ). at l (from + i) ∷ run l k (n - (i + 1))) t
-
-  run-turn : i < n → from + n ≤ length l → (b : Bool) → q (at l (from + i)) ≡ b
-      → all q (run l (from + i) (n - i)) ≡ (b && all q (run l (from + (i + 1)) (n - (i + 1))))
-  run-turn more fits b e =
-      ap (all q) (run-next more fits) ∙ ap (λ (b : Bool). b && all q (run l (from + (i + 1)) (n - (i + 1)))) e
-
-  pub run-passed : i < n → from + n ≤ length l → q (at l (from + i)) ≡ true
-      → all q (run l (from + (i + 1)) (n - (i + 1))) ≡ all q (run l (from + i) (n - i))
-  run-passed more fits e = sym (run-turn more fits true e)
-
-  pub run-failed : i < n → from + n ≤ length l → q (at l (from + i)) ≡ false → all q (run l (from + i) (n - i)) ≡ false
-  run-failed more fits e = run-turn more fits false e
-
-  pub run-ended : n ≤ i → all q (run l (from + i) (n - i)) ≡ true
-  run-ended d = let z : n - i ≡ 0 = omega arith in rw z
+use Rattle.checker_marks.specs.Marks.{Fits, markAt, Unmarked, mark, marking, markHeaders, markedFrom}
 
 -- ---- the walk that marks
 module _ (Y : Layout) (p : Part) where
@@ -62,7 +31,7 @@ module _ (Y : Layout) (p : Part) where
   mark-stopped (suc n) H i d b = rw (lt-ltb i (p .free .0) d, b)
 
   mark-next : (n : ℕ) (H : List ℕ) (i : ℕ) → i < p .free .0 → Y .isHeader (at H i) ≡ true
-      → markHeaders Y (suc n) H p i ≡ markHeaders Y n (set H (markAt p i) 1) p (i + size Y H i)
+      → markHeaders Y (suc n) H p i ≡ markHeaders Y n (mark H p i) p (i + size Y H i)
   unfolding markHeaders
   mark-next n H i d b = rw (lt-ltb i (p .free .0) d, b)
 
@@ -73,80 +42,62 @@ module _ (Y : Layout) (p : Part) where
   mark-enough zero m H i a b = sym (mark-ended m H i (omega arith))
   mark-enough (suc n) zero H i a b = mark-ended (suc n) H i (omega arith)
   mark-enough (suc n) (suc m) H i a b =
-      rw (mark-enough n m (set H (markAt p i) 1) (i + size Y H i) (omega arith) (omega arith))
+      rw (mark-enough n m (mark H p i) (i + size Y H i) (omega arith) (omega arith))
 
   pub mark-turn : (H : List ℕ) (i : ℕ) → i < p .free .0 → Y .isHeader (at H i) ≡ true → (n : ℕ) → n ≡ size Y H i
-      → markedFrom Y (set H (markAt p i) 1) p (i + n) ≡ markedFrom Y H p i
+      → markedFrom Y (mark H p i) p (i + n) ≡ markedFrom Y H p i
   mark-turn H i d b n c =
       let s : p .free .0 - i ≡ suc (p .free .0 - i - 1) = omega arith in
       rw c
-      (mark-enough (p .free .0 - (i + size Y H i)) (p .free .0 - i - 1) (set H (markAt p i) 1) (i + size Y H i) (omega arith) (omega arith)
+      (mark-enough (p .free .0 - (i + size Y H i)) (p .free .0 - i - 1) (mark H p i) (i + size Y H i)
+      (omega arith) (omega arith)
       ∙ sym (ap (λ (n : ℕ). markHeaders Y n H p i) s ∙ mark-next (p .free .0 - i - 1) H i d b))
 
--- ---- one word against the marks
+-- ---- the bit of a mark fits a word
+pub bit-exact : (i : ℕ) → 1 * 2 ^ (i % 32) % 4294967296 ≡ 2 ^ (i % 32)
+bit-exact i = shl-exact 1 (i % 32) 32 (omega arith) (omega arith) ∙ one-mul (2 ^ (i % 32))
 
--- whether an index is in the part, as `in_run` answers
-abbrev pub inPart : Part → ℕ → Bool
-inPart p i = leb (p .first .0) i && ltb i (p .first .0 + usedWords p)
+-- ---- words behind a mark's
 
-module _ (Y : Layout) (H : List ℕ) (p : Part) (w : ℕ) where
-  pub value-odd : w % 2 ≡ 1 → isValueByMarks Y H p w ≡ true
-  unfolding isValueByMarks
-  value-odd o = rw (odd-no-address w o)
+-- no word of marks behind the n-th has one: `Unmarked` of i is this of i / 32
+abbrev pub UnmarkedBehind : List ℕ → Part → ℕ → Type 0
+UnmarkedBehind H p n = (k : ℕ) → p .marks .0 + n < k → k ≤ markAt p (p .free .0) → at H k ≡ 0
 
-  -- an even word, not 0, is a code word or an address
-  code-or-address : w % 2 ≡ 0 → (w ≡ 0 → ⊥) → isCode w ≡ not (isAddress w)
-  code-or-address e n =
-      ⊎-elim
-      (λ (l : w < codeFloor).
-      let a = parts-address w e n l in
-      address-no-code w a ∙ sym (ap not a))
-      (λ (l : codeFloor ≤ w).
-      let c = parts-code w e l in
-      c ∙ sym (ap not (code-no-address w c)))
-      (decide w codeFloor)
+module _ (H : List ℕ) (p : Part) (m n : ℕ) (d : m ≤ n) (u : UnmarkedBehind H p m) where
+  pub unmarked-less : UnmarkedBehind H p n
+  unmarked-less k a b = u k (omega arith) b
 
-  -- one that is no multiple of 4, or whose index is not in the part, is a value only as a code word
-  pub value-askew : w % 2 ≡ 0 → (w % 4 ≡ 0 → ⊥) → isValueByMarks Y H p w ≡ isCode w
-  unfolding isValueByMarks
-  value-askew e n = rw (code-or-address e (λ z. n (rw z)), ne-eqb (w % 4) 0 n) (or-false (not (isAddress w)))
+  pub unmarked-set : (w : ℕ) → UnmarkedBehind (set H (p .marks .0 + n) w) p n
+  unmarked-set w k a b = getD-set-other H (p .marks .0 + n) k w 0 (λ e. omega arith) ∙ unmarked-less k a b
 
-  pub value-null : w ≡ 0 → isValueByMarks Y H p w ≡ true
-  unfolding isValueByMarks
-  value-null z = rw z
+pub unmarked-mark : (H : List ℕ) (p : Part) (i j : ℕ) → i ≤ j → Unmarked H p i → Unmarked (mark H p i) p j
+unmarked-mark H p i j d u =
+    unmarked-less (mark H p i) p (i / 32) (j / 32) (omega arith)
+    (unmarked-set H p (i / 32) (i / 32) (omega arith) u (bitOr (at H (markAt p i)) (2 ^ (i % 32))))
 
-  -- a multiple of 4, not 0, by whether its index is in the part
-  module _ (four : w % 4 ≡ 0) (some : w ≡ 0 → ⊥) (f : Fits H p) (i : ℕ) (is : i ≡ index Y w) where
-    end : p .first .0 + usedWords p ≡ p .free .0
-    end = omega (arith, f .start)
+-- ---- stores keep what depends on the heap's length alone
+pub fits-same : (H J : List ℕ) (p : Part) → length J ≡ length H → Fits H p → Fits J p
+fits-same H J p l f = record { start = f .start; used = omega arith; most = omega arith; marks = omega arith }
 
-    pub value-outside : false ≡ inPart p i → isValueByMarks Y H p w ≡ isCode w
-    unfolding isValueByMarks
-    value-outside e =
-        rw (code-or-address (omega arith) some, four, ← is, ← end, ← e) (or-false (not (isAddress w)))
+-- ---- a walk from i on in H that stands at j and has left J: what is left to mark leaves what all from i on leaves
+pub record Walked (Y : Layout) (p : Part) (H : List ℕ) (i : ℕ) (J : List ℕ) (j : ℕ) : Type 0 where
+  pub further : i ≤ j
+  pub same : length J ≡ length H
+  pub behind : Unmarked J p j
+  pub left : markedFrom Y J p j ≡ markedFrom Y H p i
 
-    pub value-inside : Adjacent Y → true ≡ inPart p i → isValueByMarks Y H p w ≡ eqb (at H (markAt p i)) 1
-    unfolding isValueByMarks
-    value-inside near e =
-        let l = ltb-true i (p .first .0 + usedWords p) (and-both (leb (p .first .0) i) _ (sym e) .1) in
-        rw (parts-address w (omega arith) some (omega (arith, f .used, f .most, end)), four, ← is, ← end, ← e)
+pub walked-not : (Y : Layout) (p : Part) (H : List ℕ) (i : ℕ) → Unmarked H p i → Walked Y p H i H i
+walked-not Y p H i u = record { further = omega arith; same = refl; behind = u; left = refl }
 
--- an index in the part has its mark in the heap
-pub mark-within : (H : List ℕ) (p : Part) (i : ℕ) → Fits H p → true ≡ inPart p i → (p .first .0 ≤ i) × (markAt p i < length H)
-mark-within H p i f e =
-    let both = and-both (leb (p .first .0) i) (ltb i (p .first .0 + usedWords p)) (sym e) in
-    let above = leb-true (p .first .0) i (both .0) in
-    let below = ltb-true i (p .first .0 + usedWords p) (both .1) in
-    (above, omega arith)
+module _ (Y : Layout) (p : Part) (H : List ℕ) (i : ℕ) (J : List ℕ) (j : ℕ) (w : Walked Y p H i J j) where
+  -- a word that is no header is met behind a header
+  pub walked-past : (j ≡ i → Y .isHeader (at J j) ≡ true) → Y .isHeader (at J j) ≡ false → i < j
+  walked-past t f =
+      let different : j ≡ i → ⊥ = λ e. never (t e) f in
+      omega (arith, w .further)
 
--- ---- one object
-module _ (Y : Layout) (H : List ℕ) (p : Part) (i : ℕ) where
-  pub fields-untraced : isTraced (kind Y H i) ≡ false → fieldsAreValuesByMarks Y H p i ≡ true
-  unfolding fieldsAreValuesByMarks
-  fields-untraced k = rw k
-
-  pub fields-traced : isTraced (kind Y H i) ≡ true → (n : ℕ) → n ≡ fieldCount Y H i → (r : Bool)
-      → r ≡ all (isValueByMarks Y H p) (run H (i + 1) n)
-      → r ≡ fieldsAreValuesByMarks Y H p i
-  unfolding fieldsAreValuesByMarks
-  fields-traced k n c r e = rw k (rw c at e)
+  -- on to k, by a call that walks from j on or by one mark
+  pub walked-on : (K : List ℕ) (k : ℕ) → length K ≡ length J
+      → (j < k) × (Unmarked K p k × (markedFrom Y K p k ≡ markedFrom Y J p j)) → Walked Y p H i K k
+  walked-on K k l e =
+      record { further = omega (arith, w .further); same = l ∙ w .same; behind = e .1 .0; left = e .1 .1 ∙ w .left }

@@ -183,7 +183,7 @@ copied-front h from to (suc n) =
     ∙ ap (λ (x : ℕ). set (copiedRun h from to (suc n)) x (at (copiedRun h from to (suc n)) (from + 1 + n))) (omega arith)
     ∙ ap (λ (x : ℕ). set (copiedRun h from to (suc n)) (to + suc n) (at (copiedRun h from to (suc n)) x)) (omega arith)
 
--- ---- all 0
+-- ---- a test of every word of a run
 
 -- a run, one word longer or a part of it passed
 run-more : (h : List ℕ) (from n : ℕ) → from + n < length h → run h from (n + 1) ≡ run h from n ++ (at h (from + n) ∷ [])
@@ -206,27 +206,28 @@ or-zero a b =
     (λ (n : a ≡ 0 → ⊥). rw (ne-eqb (bitOr a b) 0 (λ z. n (omega arith)), ne-eqb a 0 n))
     (same? a 0)
 
-pub bits-more : (h : List ℕ) (from i b : ℕ) → from + i < length h → eqb b 0 ≡ all isNull (run h from i)
-    → eqb (bitOr b (at h (from + i))) 0 ≡ all isNull (run h from (i + 1))
-bits-more h from i b l e =
-    or-zero b (at h (from + i))
-    ∙ ap (λ (x : Bool). x && isNull (at h (from + i))) e
-    ∙ ap (λ (x : Bool). all isNull (run h from i) && x) (sym (and-true (isNull (at h (from + i)))))
-    ∙ sym (ap (all isNull) (run-more h from i l) ∙ all-append isNull (run h from i) (at h (from + i) ∷ []))
+-- bits of words that are 0 exactly where q holds of them
+pub bits-more : (q : ℕ → Bool) (h : List ℕ) (from i b w : ℕ) → from + i < length h → eqb w 0 ≡ q (at h (from + i))
+    → eqb b 0 ≡ all q (run h from i) → eqb (bitOr b w) 0 ≡ all q (run h from (i + 1))
+bits-more q h from i b w l f e =
+    or-zero b w
+    ∙ ap (λ (x : Bool). x && eqb w 0) e
+    ∙ ap (λ (x : Bool). all q (run h from i) && x) (f ∙ sym (and-true (q (at h (from + i)))))
+    ∙ sym (ap (all q) (run-more h from i l) ∙ all-append q (run h from i) (at h (from + i) ∷ []))
 
--- a run is all 0 where its first m words and the others are
-zero-parts : (h : List ℕ) (from m n : ℕ) (b : Bool) → m ≤ n → all isNull (run h from m) ≡ b
-    → all isNull (run h from n) ≡ (b && all isNull (run h (from + m) (n - m)))
-zero-parts h from m n b l e =
+-- the first m words of a run and the others
+pub all-parts : (q : ℕ → Bool) (h : List ℕ) (from m n : ℕ) → m ≤ n
+    → all q (run h from n) ≡ (all q (run h from m) && all q (run h (from + m) (n - m)))
+all-parts q h from m n l =
     let s : n ≡ m + (n - m) = omega arith in
-    ap (λ (x : ℕ). all isNull (run h from x)) s ∙ ap (all isNull) (run-apart h from m (n - m))
-    ∙ all-append isNull (run h from m) (run h (from + m) (n - m))
-    ∙ ap (λ (x : Bool). x && all isNull (run h (from + m) (n - m))) e
+    ap (λ (x : ℕ). all q (run h from x)) s
+    ∙ ap (all q) (run-apart h from m (n - m))
+    ∙ all-append q (run h from m) (run h (from + m) (n - m))
 
 pub zero-passed : (h : List ℕ) (from m n : ℕ) → m ≤ n → all isNull (run h from m) ≡ true
     → all isNull (run h (from + m) (n - m)) ≡ all isNull (run h from n)
-zero-passed h from m n l e = sym (zero-parts h from m n true l e)
+zero-passed h from m n l e = rw (all-parts isNull h from m n l, e)
 
 pub zero-failed : (h : List ℕ) (from m n : ℕ) → m ≤ n → all isNull (run h from m) ≡ false
     → all isNull (run h from n) ≡ false
-zero-failed h from m n l e = zero-parts h from m n false l e
+zero-failed h from m n l e = rw (all-parts isNull h from m n l, e)

@@ -3,7 +3,7 @@
 use Prim.Native.Nat.{ℕ, zero, suc, _+_, _-_, _≤_, _<_}
 use native.Mathlib.Omega.{arith}
 use mathlib.Core.Path.{_≡_, refl, sym, ap, _∙_}
-use mathlib.Core.Bool.{Bool, true, false, _&&_, or-false}
+use mathlib.Core.Bool.{Bool, true, or-false}
 use mathlib.Core.List.{List, [], _∷_}
 use lib.Dec.{eqb}
 use borrow.Author.Tests.{lt-ltb, le-ltb}
@@ -56,20 +56,6 @@ module _ (Y : Layout) (H : List ℕ) (e : ℕ) where
     pub tile-within : tiles Y H e (e - i) i ≡ true → i + size Y H i ≤ e
     tile-within t = tiles-le Y H e (e - (i + size Y H i)) (i + size Y H i) (tiles-turn t)
 
-  -- ---- a test of each header, one after the other
-  module _ (q : ℕ → Bool) (i : ℕ) where
-    all-turn : i < e → (b : Bool) → q i ≡ b → all q (headersFrom Y H e (e - i) i)
-        ≡ (b && all q (headersFrom Y H e (e - (i + size Y H i)) (i + size Y H i)))
-    all-turn more b t =
-        ap (all q) (headers-turn i more)
-        ∙ ap (λ (b : Bool). b && all q (headersFrom Y H e (e - (i + size Y H i)) (i + size Y H i))) t
-
-    pub all-passed : i < e → q i ≡ true → all q (headersFrom Y H e (e - (i + size Y H i)) (i + size Y H i))
-        ≡ all q (headersFrom Y H e (e - i) i)
-    all-passed more t = sym (all-turn more true t)
-
-    pub all-failed : i < e → q i ≡ false → all q (headersFrom Y H e (e - i) i) ≡ false
-    all-failed more t = all-turn more false t
-
-    pub all-ended : e ≤ i → all q (headersFrom Y H e (e - i) i) ≡ true
-    all-ended d = ap (all q) (headers-past (e - i) i d)
+  -- no header is left to test
+  pub all-ended : (q : ℕ → Bool) (i : ℕ) → e ≤ i → all q (headersFrom Y H e (e - i) i) ≡ true
+  all-ended q i d = ap (all q) (headers-past (e - i) i d)

@@ -1,8 +1,8 @@
 /* A stand-in for the archive: the header's calls in plain C, with an in-place collector. It judges the tests.
  *
  * With MUTANT 0 it is right, and the tests must find no difference. Each other number is one deliberate mistake, told
- * where it is made; the tests must find it. MUTANTS in standin.h is how many there are. The calls on texts stand in
- * standin_texts.c and standin_reader.c.
+ * where it is made; the tests must find it. MUTANTS in standin.h is how many there are. The check stands in
+ * standin_check.c, the calls on texts in standin_texts.c and standin_reader.c.
  */
 #include "standin.h"
 
@@ -29,7 +29,7 @@ int is_code(uint32_t word) {
   return word % 2 == 0 && word >= floor;
 }
 
-static int plain(uint32_t word) {
+int plain(uint32_t word) {
   if (BUG(31) && word >= PHACHUNOI_CODE_FLOOR - 4) return 1; /* words just below the floor are let through and kept */
   return word % 2 == 1 || word == 0 || is_code(word);
 }
@@ -39,62 +39,6 @@ int names(const struct view *v, uint32_t word) {
   if (word == 0 || word % 4 != 0 || at < first_of(v, v->record.half) || at >= v->record.free) return 0;
   if (BUG(4)) return 1; /* any multiple of 4 in range is an object */
   return v->heap[at] % 2 == 0 && at + HEADER_COUNT(v->heap[at]) + 1 <= v->record.free;
-}
-
-/* ---- soundness: marks the header's places in the idle half, and unmarks them ---- */
-
-static uint32_t *mark_of(const struct view *v, size_t at) {
-  return &v->heap[at - first_of(v, v->record.half) + first_of(v, 1 - v->record.half)];
-}
-
-static int zero(const struct view *v, size_t from, size_t to) {
-  size_t i;
-  for (i = from; i < to; i++)
-    if (v->heap[i]) return 0;
-  return 1;
-}
-
-static int tile(const struct view *v) {
-  size_t at = first_of(v, v->record.half);
-  while (at < v->record.free && v->heap[at] % 2 == 0) {
-    *mark_of(v, at) = 1;
-    at += HEADER_COUNT(v->heap[at]) + 1;
-  }
-  return at == v->record.free;
-}
-
-static int good(const struct view *v, uint32_t word) {
-  if (plain(word)) return 1;
-  if (word % 4 != 0 || word / 4 < first_of(v, v->record.half) || word / 4 >= v->record.free) return 0;
-  return BUG(5) || *mark_of(v, word / 4); /* an address inside an object is let through */
-}
-
-static int good_object(const struct view *v, size_t at) {
-  size_t k, n = HEADER_COUNT(v->heap[at]);
-  if (v->heap[at] >> 31) return 1;
-  for (k = 1; k <= n - (BUG(6) && n > 0); k++) /* the last field is not looked at */
-    if (!good(v, v->heap[at + k]) || (BUG(32) && is_code(v->heap[at + k]))) return 0; /* no code word in a field */
-  return 1;
-}
-
-static int good_all(const struct view *v) {
-  size_t i;
-  for (i = 0; i < v->root_count; i++)
-    if (!good(v, v->roots[i]) || (BUG(33) && is_code(v->roots[i]))) return 0; /* no code word in a root */
-  for (i = first_of(v, v->record.half); i < v->record.free; i += HEADER_COUNT(v->heap[i]) + 1)
-    if (!good_object(v, i)) return 0;
-  return 1;
-}
-
-int sound(const struct view *v) {
-  size_t i, idle = first_of(v, 1 - v->record.half);
-  int ok;
-  if ((v->heap[0] && !BUG(7)) || !zero(v, idle, idle + half_of(v))) return 0; /* word 0 is not looked at */
-  if (!zero(v, v->record.free, end_of(v) - (BUG(8) && v->record.free < end_of(v)))) return 0; /* nor the last one */
-  ok = tile(v) && good_all(v);
-  if (BUG(9) && !ok) return 0; /* marks stay where the heap is not sound */
-  for (i = 0; i < half_of(v); i++) v->heap[idle + i] = 0;
-  return ok;
 }
 
 /* ---- the collector: marks a copied object by its new address with bit 0 set ---- */

@@ -8,7 +8,7 @@
 #define MUTANT 0
 #endif
 #define BUG(number) (MUTANT == (number))
-/* MUTANTS 140 */
+/* MUTANTS 168 */
 
 typedef struct phachunoi_record record_t;
 struct view { /* what a call was lent */
@@ -27,6 +27,7 @@ size_t first_of(const struct view *v, uint32_t half);
 size_t end_of(const struct view *v);
 int shape_ok(const struct view *v);
 int is_code(uint32_t word);
+int plain(uint32_t word); /* odd, null or a code word */
 int names(const struct view *v, uint32_t word);
 int sound(const struct view *v);
 phachunoi_counts collect(struct view *v, size_t dead); /* `dead` is a root that does not count, or none */

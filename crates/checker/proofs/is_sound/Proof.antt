@@ -8,8 +8,8 @@ use Rattle.model.specs.Headers.{tuple}
 use Rattle.model.specs.Shape.{badShape}
 use Rattle.model.specs.Words.{State, stateOf, halfWords}
 use Rattle.theory.proofs.Shape as Shape
-use Rattle.checker_marks.specs.Marks.{partOf, isZeroAround}
-use Rattle.checker.proofs.Returns.{unsound-shape, part-halves, part-fits, unsound-around, sound-used}
+use Rattle.checker.specs.ByMarks.{partOf, isZeroAround}
+use Rattle.checker.proofs.Returns.{unsound-shape, part-halves, part-markable, unsound-around, sound-used}
 use borrow.Author.Needs.{needs}
 use Rattle.checker.proofs.is_sound.Statement.{statement}
 use Rattle.checker.proofs.is_sound.Tie as tie
@@ -56,6 +56,11 @@ around-is c =
     c .is-zero-around .ensures
     ∙ ap (λ (S : ℕ). isZeroAround h (parted c .part-of .result) S) (halved (parted c) .half-words .ensures)
 
+-- an object's address is that of its header
+tuple-near : tuple .ahead ≡ 0
+unfolding tuple
+tuple-near = refl
+
 bad-shape-requires : tie.Need-bad-shape-requires
 bad-shape-requires c κs = search needs
 
@@ -87,9 +92,11 @@ returns-2 c =
 
 is-used-part-sound-requires : tie.Need-is-used-part-sound-requires
 is-used-part-sound-requires c κs =
-    let part = parted (c .before .before) in
+    let around = c .before in
+    let part = parted (around .before) in
     let tested = shaped (halved part) in
-    part-fits tuple _ (start tested .args .roots .now) _ (shape tested) _ (parted-is part)
+    part-markable tuple _ (start tested .args .roots .now) _ (shape tested) _ (parted-is part)
+    (sym (not-false _ (around .if2 .left)) ∙ around-is (around .before))
 
 same-length-2 : tie.Need-same-length-2
 same-length-2 c = search needs
@@ -102,7 +109,7 @@ returns-3 c =
     let part = parted cleared in
     let m = used .is-used-part-sound .ensures in
     sound-used tuple _ _ _ (shape (shaped (halved part))) _ (parted-is part)
-    (sym (not-false _ (around .if2 .left)) ∙ around-is cleared) _ _ (m .0) (m .1)
+    (sym (not-false _ (around .if2 .left)) ∙ around-is cleared) tuple-near _ _ (m .0) (m .1)
 
 pub is-sound-spec : {M : Type 1} → statement M
 is-sound-spec =

@@ -40,7 +40,7 @@ loop-again : tie.Need-loop-again Inv-loop μ-loop
 loop-again c =
     let l = c .before .before .loop in
     let a = c .before .before .before .args in
-    (omega arith, bits-more (a .heap .now) (a .from) (l .i) (l .b) (omega arith) (l .inv .1))
+    (omega arith, bits-more isNull (a .heap .now) (a .from) (l .i) (l .b) _ (omega arith) refl (l .inv .1))
 
 returns : tie.Need-returns Inv-loop μ-loop
 returns c =
