@@ -75,10 +75,10 @@ module _ (Y : Layout) (H roots : List ℕ) (p : Part) where
     unfolding allAreValuesByMarks
     values-bad d = let no : isOdd v ≡ false = rw d in rw (← roots-are, no)
 
-    pub values-good : (v % 2 ≡ 0 → ⊥) → (r : Bool) → r ≡ areValuesFrom Y (marksOf H p) (p .free .0) H (p .first .0)
+    pub values-good : v % 2 ≡ 1 → (r : Bool) → r ≡ areValuesFrom Y (marksOf H p) (p .free .0) H (p .first .0)
         → r ≡ allAreValuesByMarks Y H roots p
     unfolding allAreValuesByMarks
-    values-good d r g = let yes : isOdd v ≡ true = eq-eqb (v % 2) 1 (omega arith) in rw (← roots-are, yes) g
+    values-good d r g = let yes : isOdd v ≡ true = rw d in rw (← roots-are, yes) g
 
 -- ---- what marking left
 module _ (Y : Layout) (H : List ℕ) (p : Part) (H′ : List ℕ) (stop : ℕ) (is : marking H′ stop ≡ marked Y H p) where

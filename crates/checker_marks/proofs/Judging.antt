@@ -89,18 +89,20 @@ module _ (M : List ℕ) (e : ℕ) (ready : Ready M e) (w i : ℕ) (l : Looked e 
       (same? w 0)))
       (same? (w % 2) 1)
 
--- the verdict on a word
-module _ (M : List ℕ) (e : ℕ) (ready : Ready M e) (w v i : ℕ) (cap : Capped w v) (l : Looked e v i) where
-  pub judged : isOdd (bitOr (at M (i / 32) / 2 ^ (i % 32)) v) ≡ isValueByMarks tuple M e w
+-- the verdict on a word: its mark is bit b of the word k
+module _ (M : List ℕ) (e : ℕ) (ready : Ready M e) (w v i : ℕ) (cap : Capped w v) (l : Looked e v i)
+    (k b : ℕ) (word : k ≡ i / 32) (bit : b ≡ i % 32) where
+  pub judged : isOdd (bitOr (at M k / 2 ^ b) v) ≡ isValueByMarks tuple M e w
   unfolding isMarked
   judged =
-      or-odd (at M (i / 32) / 2 ^ (i % 32)) v
+      rw (word, bit)
+      (or-odd (at M (i / 32) / 2 ^ (i % 32)) v
       ∙ ⊎-elim
       (λ (t : (w < codeFloor - 1) × (v ≡ w)).
       below M e ready v i l (omega (arith, t .0, t .1)) ∙ ap (isValueByMarks tuple M e) (t .1))
       (λ (t : (codeFloor - 1 ≤ w) × (v ≡ codeFloor - 1)).
       rw (t .1) (or-true (isMarked M i) ∙ sym (above (t .0))))
-      cap
+      cap)
     where
       above : codeFloor - 1 ≤ w → isValueByMarks tuple M e w ≡ true
       above c =

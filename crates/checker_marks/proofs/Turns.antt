@@ -14,8 +14,9 @@ use Rattle.theory.proofs.Tests.{never}
 use Rattle.model.specs.Headers.{Layout}
 use Rattle.model.specs.Objects.{size}
 use Rattle.model.specs.Words.{at}
+use Rattle.runs.specs.Runs.{cleared}
 use Rattle.checker_marks.specs.declared.Part.{Part}
-use Rattle.checker_marks.specs.Marks.{Fits, markAt, Unmarked, mark, marking, markHeaders, markedFrom}
+use Rattle.checker_marks.specs.Marks.{Fits, markAt, markWords, Unmarked, mark, clearedMarks, marking, markHeaders, markedFrom}
 
 -- ---- the walk that marks
 module _ (Y : Layout) (p : Part) where
@@ -53,9 +54,23 @@ module _ (Y : Layout) (p : Part) where
       (omega arith) (omega arith)
       ∙ sym (ap (λ (n : ℕ). markHeaders Y n H p i) s ∙ mark-next (p .free .0 - i - 1) H i d b))
 
--- ---- the bit of a mark fits a word
-pub bit-exact : (i : ℕ) → 1 * 2 ^ (i % 32) % 4294967296 ≡ 2 ^ (i % 32)
+-- ---- one mark
+
+-- its bit fits a word
+bit-exact : (i : ℕ) → 1 * 2 ^ (i % 32) % 4294967296 ≡ 2 ^ (i % 32)
 bit-exact i = shl-exact 1 (i % 32) 32 (omega arith) (omega arith) ∙ one-mul (2 ^ (i % 32))
+
+-- bit b set in the word k, which is w
+pub marked-so : (H : List ℕ) (p : Part) (i k b w : ℕ) → k ≡ markAt p i → b ≡ i % 32 → w ≡ at H k
+    → set H k (bitOr w (1 * 2 ^ b % 4294967296)) ≡ mark H p i
+marked-so H p i k b w place bit word = rw (word, place, bit, bit-exact i)
+
+-- a turn, by what is stored
+pub stored-turn : (Y : Layout) (p : Part) (H : List ℕ) (i n k b w : ℕ) → i < p .free .0 → Y .isHeader (at H i) ≡ true
+    → n ≡ size Y H i → k ≡ markAt p i → b ≡ i % 32 → w ≡ at H k
+    → markedFrom Y (set H k (bitOr w (1 * 2 ^ b % 4294967296))) p (i + n) ≡ markedFrom Y H p i
+stored-turn Y p H i n k b w less head count place bit word =
+    ap (λ (J : List ℕ). markedFrom Y J p (i + n)) (marked-so H p i k b w place bit word) ∙ mark-turn Y p H i less head n count
 
 -- ---- words behind a mark's
 
@@ -101,3 +116,8 @@ module _ (Y : Layout) (p : Part) (H : List ℕ) (i : ℕ) (J : List ℕ) (j : �
       → (j < k) × (Unmarked K p k × (markedFrom Y K p k ≡ markedFrom Y J p j)) → Walked Y p H i K k
   walked-on K k l e =
       record { further = omega (arith, w .further); same = l ∙ w .same; behind = e .1 .0; left = e .1 .1 ∙ w .left }
+
+-- ---- marks cleared: null's word, and n words from m on
+pub both-cleared : (H J K : List ℕ) (p : Part) (i m n : ℕ) → J ≡ cleared H (p .marks .0) i → K ≡ cleared J m n
+    → i ≡ 1 → m ≡ markAt p (p .first .0) → n ≡ markWords p → K ≡ clearedMarks H p
+both-cleared H J K p i m n one rest a b c = rest ∙ rw (one, a, b, c)

@@ -31,8 +31,8 @@ returns : tie.Need-returns
 returns c =
     let judged = c .before in
     let a = judged .before .before .before .before in
-    values-bad tuple (a .args .heap .now) (a .args .roots .now) (a .args .part) _
-    (rw (marks-lent (a .args .heap .now) (a .args .part)) at (judged .judge-words .ensures)) (c .if1 .taken)
+    values-bad tuple (a .args .heap .now) (a .args .roots .now) (a .args .part) (judged .judge-words .result)
+    (rw (marks-lent (a .args .heap .now) (a .args .part)) at (judged .judge-words .ensures)) (omega (arith, c .if1 .taken))
 
 are-all-fields-values-requires : tie.Need-are-all-fields-values-requires
 are-all-fields-values-requires c κs =
@@ -44,8 +44,8 @@ returns-2 c =
     let judged = c .before .before in
     let a = judged .before .before .before .before in
     let lent = marks-lent (a .args .heap .now) (a .args .part) in
-    values-good tuple (a .args .heap .now) (a .args .roots .now) (a .args .part) _
-    (rw lent at (judged .judge-words .ensures)) (c .before .if1 .left) _
+    values-good tuple (a .args .heap .now) (a .args .roots .now) (a .args .part) (judged .judge-words .result)
+    (rw lent at (judged .judge-words .ensures)) (omega (arith, c .before .if1 .left)) _
     (rw lent at (c .are-all-fields-values .ensures))
 
 pub all-are-values-spec : {M : Type 1} → statement M

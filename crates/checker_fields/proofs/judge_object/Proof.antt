@@ -1,7 +1,7 @@
 -- `checker_fields::judge_object` meets its contract: the words judged are its fields, if it is traced.
 use Prim.Native.Nat.{_≤_}
 use native.Mathlib.Omega.{arith}
-use mathlib.Core.Path.{refl, sym, _∙_}
+use mathlib.Core.Path.{_≡_, refl, sym, _∙_}
 use mathlib.Core.Logic.{inl, inr, ⊎-elim}
 use Rattle.model.specs.Headers.{tuple}
 use Rattle.checker_fields.proofs.Turns.{ToJudge, fields-judged, fields-within}
@@ -55,7 +55,8 @@ returns c = fields-judged tuple _ _ _ _ _ (fields (c .before .before)) _ (c .jud
 returns-2 : tie.Need-returns-2
 returns-2 c =
     let met = c .before .before in
-    fields-judged tuple _ _ _ _ _ (fields met) _ (rw (c .if3 .taken) refl)
+    let none : met .if1 .fields ≡ 0 = omega (arith, c .if3 .taken) in
+    fields-judged tuple _ _ _ _ _ (fields met) _ (rw none refl)
 
 add-judge-words : tie.Need-add-judge-words
 add-judge-words c = search needs

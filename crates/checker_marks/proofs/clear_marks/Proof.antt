@@ -1,4 +1,6 @@
 -- `checker_marks::clear_marks` meets its contract: the two callees clear what the definition says.
+use native.Mathlib.Omega.{arith}
+use Rattle.checker_marks.proofs.Turns.{both-cleared}
 use borrow.Author.Needs.{needs}
 use Rattle.checker_marks.proofs.clear_marks.Statement.{statement}
 use Rattle.checker_marks.proofs.clear_marks.Tie as tie
@@ -28,7 +30,8 @@ returns : tie.Need-returns
 returns c =
     let last = c .before .before in
     let first = last .before .before .before .before in
-    rw (first .clear .ensures) at (last .clear2 .ensures)
+    both-cleared _ _ _ (first .before .before .before .before .before .args .part) _ _ _ (first .clear .ensures) (last .clear2 .ensures)
+    (omega arith) (omega arith) (omega arith)
 
 pub clear-marks-spec : {M : Type 1} → statement M
 clear-marks-spec =

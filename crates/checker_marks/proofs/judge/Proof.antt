@@ -10,10 +10,18 @@ use Rattle.checker_marks.proofs.judge.Lts as lts
 
 -- the word capped, and where its mark is looked up
 capped : (c : tie.Joined1) → Capped (c .before .args .word) (c .if1 .capped)
-capped c = ⊎-elim (λ t. inl (t .0 .taken, t .1)) (λ t. inr (t .0 .left, t .1)) (c .if1 .came)
+capped c =
+    ⊎-elim
+    (λ t. inl (omega (arith, t .0 .taken), t .1))
+    (λ t. inr (omega (arith, t .0 .left), omega (arith, t .1)))
+    (c .if1 .came)
 
 looked : (c : tie.Joined2) → Looked (c .before .before .before .args .free) (c .before .before .if1 .capped) (c .if2 .i)
-looked c = ⊎-elim (λ t. inl (t .0 .taken, t .1)) (λ t. inr (t .0 .left, t .1)) (c .if2 .came)
+looked c =
+    ⊎-elim
+    (λ t. inl (omega (arith, t .0 .taken), omega (arith, t .1)))
+    (λ t. inr (omega (arith, t .0 .left), omega (arith, t .1)))
+    (c .if2 .came)
 
 mul-turned : tie.Need-mul-turned
 mul-turned c = search needs
@@ -43,7 +51,7 @@ shr-result c = search needs
 returns : tie.Need-returns
 returns c =
     let met = c .before .before in
-    judged _ _ (met .before .before .before .pre) _ _ _ (capped (met .before .before)) (looked met)
+    judged _ _ (met .before .before .before .pre) _ _ _ (capped (met .before .before)) (looked met) _ _ (omega arith) (omega arith)
 
 pub judge-spec : {M : Type 1} → statement M
 judge-spec =

@@ -12,7 +12,7 @@ use Rattle.model.specs.Headers.{tuple}
 use Rattle.model.specs.Words as words
 use Rattle.checker_marks.specs.Marks.{part, markAt, Unmarked, markedFrom}
 use Rattle.checker_marks.specs.declared.Part.{Part}
-use Rattle.checker_marks.proofs.Turns.{UnmarkedBehind, mark-turn, bit-exact, unmarked-less, unmarked-set}
+use Rattle.checker_marks.proofs.Turns.{UnmarkedBehind, stored-turn, unmarked-less, unmarked-set}
 use Rattle.checker_marks.proofs.mark_alike.Statement.{statement}
 use Rattle.checker_marks.proofs.mark_alike.Tie as tie
 use Rattle.checker_marks.proofs.mark_alike.Reads as reads
@@ -130,12 +130,14 @@ loop-again c =
           let left = l .inv .5 first free d u in
           let before : c .before .if2 .before ≡ words.at (l .heap) (markAt p (l .at)) =
           ⊎-elim
-          (λ t. t .1 ∙ l .inv .4 ∙ ap (λ (n : ℕ). words.at (l .heap) (marks + n)) (sym (t .0 .taken)))
+          (λ t.
+          let here : l .place ≡ l .at / 32 = omega (arith, t .0 .taken) in
+          t .1 ∙ l .inv .4 ∙ ap (λ (n : ℕ). words.at (l .heap) (marks + n)) here)
           (λ t. t .1 ∙ sym (left .0 (markAt p (l .at)) (omega arith) (omega arith)))
           (c .before .if2 .came) in (
             unmarked-set (l .heap) p (l .place) (l .at / 32) (l .inv .3) (left .0) _,
-            rw (bit-exact (l .at), before)
-                (mark-turn tuple p (l .heap) (l .at) (omega arith) head _ (omega (arith, count)) ∙ left .1),
+            stored-turn tuple p (l .heap) (l .at) _ _ _ _ (omega arith) head (omega (arith, count)) refl (omega arith) before
+                ∙ left .1,
           ),
     )
 

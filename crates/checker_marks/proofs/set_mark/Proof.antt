@@ -1,5 +1,7 @@
--- `checker_marks::set_mark` meets its contract: the bit that is shifted fits a word.
-use Rattle.checker_marks.proofs.Turns.{bit-exact}
+-- `checker_marks::set_mark` meets its contract: the place and the bit are the mark's.
+use native.Mathlib.Omega.{arith}
+use mathlib.Core.Path.{refl}
+use Rattle.checker_marks.proofs.Turns.{marked-so}
 use borrow.Author.Needs.{needs}
 use Rattle.checker_marks.proofs.set_mark.Statement.{statement}
 use Rattle.checker_marks.proofs.set_mark.Tie as tie
@@ -31,7 +33,9 @@ same-length : tie.Need-same-length
 same-length c = search needs
 
 returns : tie.Need-returns
-returns c = rw (bit-exact _)
+returns c =
+    let a = c .before .before .args in
+    marked-so (a .heap .now) (a .part) (a .at) _ _ _ (omega arith) (omega arith) refl
 
 pub set-mark-spec : {M : Type 1} → statement M
 set-mark-spec =
