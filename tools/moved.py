@@ -36,7 +36,7 @@ COMMENT = {"src": r"//.*", "specs": r"(?:^|\s)--.*", "proofs": r"(?:^|\s)--.*"}
 NO_ENTRY = re.compile(r"(ghost )?(pub(\(\w+\))? )?(use |mod \w+;?$)")
 MODULE = re.compile(r"(?:pub )?module (\S+)")
 DECLARED = re.compile(r"((?:(?:abbrev|unfoldable|pub) )*)"
-                      r"(?:(?:record|data) (\S+)|((?:(?!= )[^\s(){}:]+ )+)(?:\{\S+\} )*: )")
+                      r"(?:(?:record|data|ruleset) (\S+)|((?:(?!= )[^\s(){}:]+ )+)(?:\{\S+\} )*: )")
 ITEM = re.compile(r"(?:#\[[^]]*\] )*(?:pub(?:\(\w+\))? )?(?:extern \S+ )?"
                   r"(?:(fn|struct|enum|const|type)|impl(?:<[^>]*>)?(?: [^{;]* for)?) (?!fn\b)(\w+)")
 

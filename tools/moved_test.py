@@ -158,6 +158,8 @@ opens : ℕ
 unfolding first
 opens = first
 
+ruleset sorting = (first, second)
+
 moves : ℕ
 moves = 1
 '''
@@ -193,6 +195,7 @@ CHANGES = [
     ("one // two", "one // three"),
     ("    go n = n\n", "    go n = zero\n"),
     ("unfolding first\nopens", "unfolding first second\nopens"),
+    ("ruleset sorting = (first, second)", "ruleset sorting = (first, third)"),
     ("\nmoves : ℕ\nmoves = 1\n", ""),
     ("Again.antt\npub twice-told : ℕ\ntwice-told = 1\n",
      "Again.antt\npub twice-told : ℕ\ntwice-told = 1\n\nmoves : ℕ\nmoves = 1\n"),
@@ -220,9 +223,9 @@ EXPECTED = '''+ new, > moved here, ~ changed, - gone, = the same.
 | `meanings` | +2 >1 ~1 -1 =1 |  |  |  |
 | `code` | +1 -1 =3 | +1 ~1 -1 =1 |  |  |
 | `laws` |  |  | +1 ~1 -1 =1 | +1 ~1 -1 =1 |
-| `layout` | ~6 =4 | ~2 =2 |  | >1 ~2 =2 |
+| `layout` | ~6 =4 | ~2 =2 |  | >1 ~3 =2 |
 | `attic` | -1 |  |  |  |
-| all | +3 >1 ~7 -3 =8 | +1 ~3 -1 =3 | +1 ~1 -1 =1 | +1 >1 ~3 -1 =3 |
+| all | +3 >1 ~7 -3 =8 | +1 ~3 -1 =3 | +1 ~1 -1 =1 | +1 >1 ~4 -1 =3 |
 
 - `meanings`, definitions, new: `Steps.next`, `Steps.old`
 - `meanings`, definitions, moved: `Steps.kept`
@@ -242,7 +245,7 @@ EXPECTED = '''+ new, > moved here, ~ changed, - gone, = the same.
 - `layout`, definitions, changed: `MOST`, `Shapes.Named.Tree`, `Shapes._⟦_⟧`, `Shapes.deep`, `Shapes.flat`, `promised`
 - `layout`, functions, changed: `said`, `worked`
 - `layout`, lemmas, moved: `Again.moves`
-- `layout`, lemmas, changed: `Twice.helped`, `Twice.opens`
+- `layout`, lemmas, changed: `Twice.helped`, `Twice.opens`, `Twice.sorting`
 - `attic`, definitions, gone: `Old.old`
 exit status 0
 crates/attic/specs/Old.antt:3: belongs to no declaration: older = 1
