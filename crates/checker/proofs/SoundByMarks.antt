@@ -1,4 +1,5 @@
--- The test by marks is the definition of soundness, and clearing the marks gives the heap back. For any layout.
+-- Clearing the marks gives the heap back, for any layout; and the test by marks is the definition of soundness, for a layout
+-- whose addresses are those of headers, since null has the mark of word 0.
 use Prim.Native.Nat.{ℕ, _+_, _/_, _%_, _≤_, _<_}
 use native.Mathlib.Omega.{arith}
 use mathlib.Core.Path.{_≡_, refl, sym, ap, _∙_}

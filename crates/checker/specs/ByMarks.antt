@@ -1,5 +1,5 @@
--- The soundness test as the code makes it, by marks in the idle half, for any layout. `proofs/SoundByMarks` says that it is the
--- definition of soundness.
+-- The soundness test as the code makes it, by marks in the idle half. `proofs/SoundByMarks` says that it is the definition of
+-- soundness, for a layout whose addresses are those of headers.
 use Prim.Native.Nat.{ℕ, _+_, _≤_, _<_}
 use mathlib.Core.Path.{_≡_}
 use mathlib.Core.Bool.{Bool, _&&_}
