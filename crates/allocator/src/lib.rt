@@ -1,4 +1,6 @@
 // Allocate: place the object if it fits; if not, collect first and try once more.
+#![tactic(auto)]
+
 ghost use Rattle.std.specs.Prelude.{◌≡◌, ◌≤◌, ◌<◌, length};
 ghost use Rattle.model.specs.Limits.{max_fields};
 ghost use Rattle.model.specs.Headers as Layouts;

@@ -1,6 +1,8 @@
 // The calls that look at no heap word: fresh, and those on roots' words as they are. No call has a
 // `requires`: each answers for every heap, roots and record that it is lent, and its promise is one equation
 // to the call's definition in `model`.
+#![tactic(auto)]
+
 pub mod beginning;
 pub mod code;
 pub mod integer;

@@ -2,6 +2,8 @@
 // in their order, through the compiled calls; those of TextCases are the program `text_cases`. A line for each:
 // its name, the answers in numbers, and the record, words and roots that are left. The expected lines, worked
 // out from documents 01 and 02, stand in the file `stdout`, and the gate compares.
+#![tactic(auto)]
+
 mod calls;
 mod codes;
 mod collections;

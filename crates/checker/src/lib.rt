@@ -1,6 +1,8 @@
 // The soundness check: linear in the words, and with no memory of its own. Each header is marked by a bit in
 // the idle half, which has to be 0; roots and fields are held against the marks; then the marks are cleared,
 // so that no word differs.
+#![tactic(auto)]
+
 ghost use Rattle.std.specs.Prelude.{◌≡◌, ◌≤◌};
 ghost use Rattle.model.specs.Agreements.{lent, outcome};
 ghost use Rattle.model.specs.Calls as Calls;

@@ -1,4 +1,6 @@
 // The fields of the used part's objects held against the marks, object after object. The headers are marked.
+#![tactic(auto)]
+
 ghost use Rattle.std.specs.Prelude.{◌≡◌, true, ◌≤◌, ◌<◌};
 ghost use Rattle.model.specs.Headers.{tuple};
 ghost use Rattle.model.specs.Objects.{is_traced};
@@ -13,7 +15,7 @@ use words::tuple::Tuple;
 
 // Where a walk stopped; its verdict, odd for yes: whether the fields that it passed are values; and whether
 // headers changed often on the way, which only chooses the way from there on.
-#[derive(Drop)]
+#[derive(Clone, Copy)]
 pub struct Walk {
     pub at: usize,
     pub verdict: u32,

@@ -1,5 +1,7 @@
 // The marks of the soundness check: each header of the used part is marked by a bit in the idle half, and a
 // word is held against the marks. Nothing else knows where a mark stands.
+#![tactic(auto)]
+
 ghost use Rattle.std.specs.Prelude.{◌≡◌, true, ◌≤◌, ◌<◌};
 ghost use Rattle.model.specs.Headers.{tuple};
 ghost use Rattle.model.specs.Limits.{max_words};
@@ -14,7 +16,7 @@ use words::values::CODE_FLOOR;
 
 // The used part of the current half, from its first word to the free index, and the first word of the other
 // half: the mark of the word i is bit i % 32 of the word `marks + i / 32`.
-#[derive(Drop)]
+#[derive(Clone, Copy)]
 pub struct Part {
     pub first: Index,
     pub free: Index,
@@ -23,7 +25,7 @@ pub struct Part {
 
 // Where marking stopped, and whether headers changed often on the way. The latter only chooses the way from
 // there on.
-#[derive(Drop)]
+#[derive(Clone, Copy)]
 pub struct Stop {
     pub at: usize,
     pub mixed: bool,

@@ -1,5 +1,7 @@
 // Words in a row held against the marks: a verdict on all of them, odd for yes. Few words are judged
 // straight, and many odd words or nulls in a row without a look at the marks.
+#![tactic(auto)]
+
 ghost use Rattle.std.specs.Prelude.{◌≡◌, ◌+◌, ◌≤◌, eqb, length};
 ghost use Rattle.model.specs.Headers.{tuple};
 ghost use Rattle.model.specs.Soundness.{all};

@@ -1,4 +1,6 @@
 // Collect: the check first, since a collection of a heap that is not sound could do anything.
+#![tactic(auto)]
+
 ghost use Rattle.std.specs.Prelude.{◌≡◌};
 ghost use Rattle.model.specs.Headers as Layouts;
 ghost use Rattle.model.specs.Agreements.{lent, outcome};

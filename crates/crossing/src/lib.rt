@@ -1,5 +1,7 @@
 // What C gives and gets, and the steps between that and the library's types. No enum crosses to C, so that
 // each half, kind and refusal is a number there.
+#![tactic(auto)]
+
 ghost use Rattle.std.specs.Prelude.{◌≡◌};
 ghost use Rattle.model.specs.declared.Answer.TheVariants as Says;
 ghost use Rattle.model.specs.Answers.{told};
@@ -11,7 +13,7 @@ use numbers::number;
 use numbers::seen::Seen;
 
 #[repr(C)]
-#[derive(Drop)]
+#[derive(Clone, Copy)]
 pub struct CRecord {
     pub half: u32,
     pub free: u32,
@@ -19,7 +21,7 @@ pub struct CRecord {
 
 // Of a call that may leave another record than it was lent: the one to hand to the next call.
 #[repr(C)]
-#[derive(Drop)]
+#[derive(Clone, Copy)]
 pub struct CResult {
     pub refusal: u32,
     pub value: u32,
@@ -27,7 +29,7 @@ pub struct CResult {
 }
 
 #[repr(C)]
-#[derive(Drop)]
+#[derive(Clone, Copy)]
 pub struct CCollected {
     pub refusal: u32,
     pub live: u32,
@@ -38,7 +40,7 @@ pub struct CCollected {
 
 // Of a call that leaves the record that it was lent, so that the host keeps its own.
 #[repr(C)]
-#[derive(Drop)]
+#[derive(Clone, Copy)]
 pub struct CAnswer {
     pub refusal: u32,
     pub value: u32,
@@ -46,7 +48,7 @@ pub struct CAnswer {
 
 // Sixteen bits are enough for a refusal's number and for what a root holds, and C gets all in two registers.
 #[repr(C)]
-#[derive(Drop)]
+#[derive(Clone, Copy)]
 pub struct CSeen {
     pub refusal: u16,
     pub kind: u16,
@@ -58,7 +60,7 @@ pub struct CSeen {
 // Of a call that writes a text: its bytes may be more than 32 bits count, and two numbers of one width leave
 // no gap between them.
 #[repr(C)]
-#[derive(Drop)]
+#[derive(Clone, Copy)]
 pub struct CWritten {
     pub refusal: usize,
     pub length: usize,
@@ -66,7 +68,7 @@ pub struct CWritten {
 
 // The words of the fields are `count` words of the heap, from the index `first` on.
 #[repr(C)]
-#[derive(Drop)]
+#[derive(Clone, Copy)]
 pub struct CWindow {
     pub refusal: u32,
     pub first: u32,

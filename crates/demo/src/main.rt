@@ -1,4 +1,6 @@
 // Builds P5 of document 01 by calls, collects it, and prints what is left.
+#![tactic(auto)]
+
 use allocator::allocate;
 use blind::{fresh, set_integer};
 use collector::collect;

@@ -1,5 +1,7 @@
 // Cheney's collection of a sound heap: the roots renamed, the copies scanned until none is left to scan, the
 // old words cleared. It is proved equal to the definition of a collection, which knows of no algorithm.
+#![tactic(auto)]
+
 ghost use Rattle.std.specs.Prelude.{◌≡◌, true, length};
 ghost use Rattle.model.specs.Headers.{tuple};
 ghost use Rattle.model.specs.Words.{state_of};
@@ -17,7 +19,7 @@ use model::{Counts, Index, Record};
 use words::shape;
 
 // What a collection leaves besides the words: what it counted, and the record.
-#[derive(Drop)]
+#[derive(Clone, Copy)]
 pub struct Collected {
     pub counts: Counts,
     pub record: Record,

@@ -1,4 +1,6 @@
 // One object moved to the free words, and one word renamed.
+#![tactic(auto)]
+
 ghost use Rattle.std.specs.Prelude.{◌≡◌};
 ghost use Rattle.model.specs.Headers.{tuple};
 ghost use Rattle.engine_moving.specs.Moving.{left, relocated, renamed, counted};
@@ -9,7 +11,7 @@ use words::tuple::Tuple;
 use words::values::is_address;
 
 // What a word that is renamed led to: no object, one that is copied now, or one that was copied before.
-#[derive(Drop)]
+#[derive(Clone, Copy)]
 pub enum Met {
     Plain,
     Copied,
@@ -17,7 +19,7 @@ pub enum Met {
 }
 
 // Where an object's copy is, and the next free word.
-#[derive(Drop)]
+#[derive(Clone, Copy)]
 pub struct Moved {
     pub to: Address,
     pub free: Index,
@@ -25,14 +27,14 @@ pub struct Moved {
 }
 
 // How many words led to an object that was copied then, and how many to one that was copied before.
-#[derive(Drop)]
+#[derive(Clone, Copy)]
 pub struct Tally {
     pub copied: usize,
     pub found: usize,
 }
 
 // What a word becomes, and the next free word.
-#[derive(Drop)]
+#[derive(Clone, Copy)]
 pub struct Renamed {
     pub word: u32,
     pub free: Index,

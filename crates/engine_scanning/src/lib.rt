@@ -1,4 +1,6 @@
 // The scan of the copies: the fields of traced objects are renamed, raw words are passed at once.
+#![tactic(auto)]
+
 ghost use Rattle.std.specs.Prelude.{◌≡◌, ◌+◌, ◌-◌, ◌≤◌, length};
 ghost use Rattle.model.specs.Limits.{max_fields};
 ghost use Rattle.model.specs.Headers.{tuple};
@@ -12,21 +14,21 @@ use model::Index;
 use words::tuple::Tuple;
 
 // Of a field that was passed: the next free word, and what the field led to.
-#[derive(Drop)]
+#[derive(Clone, Copy)]
 pub struct Stepped {
     pub free: Index,
     pub met: Met,
 }
 
 // Of fields or objects that were passed: the next free word, and what was met so far.
-#[derive(Drop)]
+#[derive(Clone, Copy)]
 pub struct Swept {
     pub free: Index,
     pub tally: Tally,
 }
 
 // Of one object: the next one too.
-#[derive(Drop)]
+#[derive(Clone, Copy)]
 pub struct Passed {
     pub next: Index,
     pub free: Index,

@@ -1,6 +1,8 @@
 // For `host`: the by-value calls that are not lent every slice by `&mut`, each lent all so: its equation says
 // what it leaves as it was. Every thin call of `host` then lends heap and roots the same way to what it
 // calls, and the walks of their code differ in nothing but the number of values that follow the record.
+#![tactic(auto)]
+
 ghost use Rattle.std.specs.Prelude.{◌≡◌};
 ghost use Rattle.model.specs.Headers as Layouts;
 ghost use Rattle.model.specs.Agreements.{lent, lent_text, outcome, outcome_text};

@@ -1,5 +1,7 @@
 // Integers and their words: v is held as 2v + 1 in two's complement. Signed numbers are split by their sign
 // at once, and all that follows is unsigned.
+#![tactic(auto)]
+
 ghost use Rattle.std.specs.Prelude.{◌≡◌};
 ghost use Rattle.model.specs.Values as Values;
 ghost use Rattle.integers.specs.Tagging.{tagged};
@@ -11,7 +13,7 @@ const MAX_INTEGER: u64 = 1073741823;
 const LAST_WORD: u64 = 4294967295;
 
 // The word of an integer, or that there is none.
-#[derive(Drop)]
+#[derive(Clone, Copy)]
 pub enum Tagged {
     Word(u32),
     OutOfRange,

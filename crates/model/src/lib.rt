@@ -1,33 +1,35 @@
 // What the library's calls speak of: halves, indexes, addresses, the heap's record, objects' kinds, refusals,
 // answers and calls, in the forms that document 01 names, and the steps between the two units.
+#![tactic(auto)]
+
 ghost use Rattle.std.specs.Prelude.{◌≡◌, ◌≤◌};
 ghost use Rattle.model.specs.Limits.{max_words};
 ghost use Rattle.model.specs.Words.{address_of, index_of};
 
 // Half A is words 1 to S, half B words S + 1 to 2S.
-#[derive(Drop)]
+#[derive(Clone, Copy)]
 pub enum Half {
     A,
     B,
 }
 
 // The index of a heap word. Word 0 is reserved.
-#[derive(Drop)]
+#[derive(Clone, Copy)]
 pub struct Index(pub usize);
 
 // The address of a heap word in bytes, as roots and fields hold it.
-#[derive(Drop)]
+#[derive(Clone, Copy)]
 pub struct Address(pub u32);
 
 // The heap's record: the current half, and the index of the next free word.
-#[derive(Drop)]
+#[derive(Clone, Copy)]
 pub struct Record {
     pub half: Half,
     pub free: Index,
 }
 
 // Fields of a traced object are values; those of an untraced one are raw words, never followed.
-#[derive(Drop)]
+#[derive(Clone, Copy)]
 pub enum Kind {
     Traced,
     Untraced,
@@ -35,7 +37,7 @@ pub enum Kind {
 
 // Why a call refuses, by document 01's and 02's numbers, which are names: the order in which refusals are
 // given is `rank` of the definitions.
-#[derive(Drop)]
+#[derive(Clone, Copy)]
 pub enum Refusal {
     // The heap's length, the number of roots or the free index is outside its range.
     Shape,
@@ -65,7 +67,7 @@ pub enum Refusal {
 }
 
 // What a collection counts.
-#[derive(Drop)]
+#[derive(Clone, Copy)]
 pub struct Counts {
     // L: the words of the reachable objects.
     pub live: u32,
@@ -77,7 +79,7 @@ pub struct Counts {
 }
 
 // What a call answers.
-#[derive(Drop)]
+#[derive(Clone, Copy)]
 pub enum Answer {
     Done,
     // Collect.
@@ -100,7 +102,7 @@ pub enum Answer {
 }
 
 // What a by-value call returns: its answer, and the record to hand to the next call.
-#[derive(Drop)]
+#[derive(Clone, Copy)]
 pub struct Answered {
     pub answer: Answer,
     pub record: Record,
@@ -114,7 +116,7 @@ pub fn say(answer: Answer, record: Record) -> Answered
 }
 
 // An answer in document 01's numbers.
-#[derive(Drop)]
+#[derive(Clone, Copy)]
 pub struct Told {
     // The refusal's number, 0 for none.
     pub refusal: u32,
@@ -133,7 +135,7 @@ pub struct Told {
 }
 
 // A session call. Roots are named by number.
-#[derive(Drop)]
+#[derive(Clone, Copy)]
 pub enum Call {
     Collect,
     Check,
@@ -192,7 +194,7 @@ pub enum Call {
 }
 
 // Where the object of a window stands, the index of its header and its field count; or why there is none.
-#[derive(Drop)]
+#[derive(Clone, Copy)]
 pub enum Place {
     Object(Index, u32),
     Refused(Refusal),

@@ -1,4 +1,6 @@
 // The object that a word names: whether it names one, and a field of it.
+#![tactic(auto)]
+
 ghost use Rattle.std.specs.Prelude.{◌≡◌, List, ℕ};
 ghost use Rattle.model.specs.Words.{state_of};
 ghost use Rattle.model.specs.Headers as Layouts;
@@ -35,7 +37,7 @@ pub fn names(heap: &[u32], record: Record, word: u32) -> bool
 }
 
 // The index of a field's word, or why there is none.
-#[derive(Drop)]
+#[derive(Clone, Copy)]
 pub enum Field {
     At(Index),
     Refused(Refusal),

@@ -1,4 +1,6 @@
 // Answers in document 01's numbers, for hosts that count refusals and not names.
+#![tactic(auto)]
+
 ghost use Rattle.std.specs.Prelude.{◌≡◌};
 ghost use Rattle.model.specs.declared.Answer.TheVariants as Says;
 ghost use Rattle.model.specs.Answers as Answers;

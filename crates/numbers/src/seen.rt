@@ -8,7 +8,7 @@ ghost use Rattle.numbers.specs.Places.{seen_of};
 use super::number;
 use model::{Kind, Refusal};
 
-#[derive(Drop)]
+#[derive(Clone, Copy)]
 pub struct Seen {
     // The refusal's number, 0 for none.
     pub refusal: u32,

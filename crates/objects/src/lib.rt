@@ -1,5 +1,7 @@
 // The calls on one field of the object that a root names: load, store, raw read, raw write. Each looks at the
 // object's header and at that field, and at no other heap word.
+#![tactic(auto)]
+
 ghost use Rattle.std.specs.Prelude.{◌≡◌};
 ghost use Rattle.model.specs.Headers as Layouts;
 ghost use Rattle.model.specs.Agreements.{lent, outcome};

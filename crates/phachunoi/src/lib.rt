@@ -1,6 +1,8 @@
 // The library for C: every call in slices and numbers. No call has a `requires`; each answers for all numbers
 // that it is given, and its promise is one equation to the call's definition in `model`, by the numbers of
 // `crossing`.
+#![tactic(auto)]
+
 ghost use Rattle.std.specs.Prelude.{◌≡◌};
 ghost use Rattle.crossing.specs.Numbers as Numbers;
 

@@ -1,4 +1,6 @@
 // A new object at the free index, and whether one fits.
+#![tactic(auto)]
+
 ghost use Rattle.std.specs.Prelude.{◌≡◌};
 ghost use Rattle.model.specs.Words.{state_of};
 ghost use Rattle.model.specs.Headers as Layouts;

@@ -4,6 +4,8 @@
 // A refused reader changes nothing but by a collection, so the text is judged first: whether it is one, and
 // how many words its objects take. Where these are free it is gone over again, and each object is placed
 // where it is met.
+#![tactic(auto)]
+
 ghost use Rattle.std.specs.Prelude.{◌≡◌, false, ◌<◌, length};
 ghost use Rattle.model.specs.Words.{state_of};
 ghost use Rattle.model.specs.Headers as Layouts;

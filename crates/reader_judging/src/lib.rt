@@ -1,5 +1,7 @@
 // What a text stands for. A reader judges all of it before it changes anything: whether the bytes are a text,
 // and how many words its objects take. Nothing is written here.
+#![tactic(auto)]
+
 ghost use Rattle.std.specs.Prelude.{◌≡◌, ◌≤◌};
 ghost use Rattle.model.specs.Reading.{parsed, most_digits, signed};
 ghost use Rattle.reader_judging.specs.Judging.{judged_of};
@@ -12,7 +14,7 @@ pub mod values;
 use values::{DEEP, is_opener, outermost};
 
 // An integer, a tuple with the words that it takes, or why the bytes are no text.
-#[derive(Drop)]
+#[derive(Clone, Copy)]
 pub enum Judged {
     Integer(i32),
     Tuple(usize),

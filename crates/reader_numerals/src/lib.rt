@@ -1,5 +1,7 @@
 // An integer of a text: its bytes from a place on, with the place behind them as the answer, or 0 where they
 // are none. What a digit is serves the reader's other pass too.
+#![tactic(auto)]
+
 ghost use Rattle.std.specs.Prelude.{◌≡◌, false, cond, ◌+◌, ◌≤◌, ◌<◌, eqb, length, get_or};
 ghost use Rattle.model.specs.Texts.{minus};
 ghost use Rattle.model.specs.ReadFaults as Faults;

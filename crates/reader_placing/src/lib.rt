@@ -5,6 +5,8 @@
 // taken first, by one loop over the text from its end; they are kept in the last of the words that the text
 // will fill. An object that is placed never reaches a count that is still to be used, since each tuple that
 // is left takes a word at least.
+#![tactic(auto)]
+
 ghost use Rattle.model.specs.Trees.{Forest};
 ghost use Rattle.reader_placing.specs.Laying.{LaysOut, LaidFrom};
 

@@ -7,7 +7,7 @@ use reader_numerals::{MINUS, ZERO, is_digit};
 // The word of -1.
 const LAST_WORD: u32 = 4294967295;
 
-#[derive(Drop)]
+#[derive(Clone, Copy)]
 pub struct Numeral {
     pub number: u32,
     pub end: usize,

@@ -9,7 +9,7 @@ use reader_judging::values::is_opener;
 use words::tuple::Tuple;
 
 // Where what follows begins: in the text, in the heap, among the counts.
-#[derive(Drop)]
+#[derive(Clone, Copy)]
 pub struct Reached {
     pub at: usize,
     pub free: usize,

@@ -1,5 +1,7 @@
 // Runs of words inside one lent slice: cleared, copied, tested for 0. Few words are done straight, since most
 // objects are small.
+#![tactic(auto)]
+
 ghost use Rattle.std.specs.Prelude.{◌≡◌, ◌+◌, ◌≤◌, eqb, length};
 ghost use Rattle.model.specs.Values.{is_null};
 ghost use Rattle.model.specs.Soundness.{all};

@@ -1,5 +1,7 @@
 // One session call, whichever it is, lent the bytes of a text, which only write and read look at. Its promise
 // is `step` of the definitions, so that demand 3 speaks about this code.
+#![tactic(auto)]
+
 ghost use Rattle.std.specs.Prelude.{◌≡◌};
 ghost use Rattle.model.specs.Headers as Layouts;
 ghost use Rattle.model.specs.Agreements.{lent_text, outcome_text};

@@ -1,4 +1,6 @@
 // Records, answers and words as text on standard output.
+#![tactic(auto)]
+
 use model::{Half, Index, Record, Told};
 
 pub fn text(text: &[u8]) {

@@ -2,6 +2,8 @@
 // each: its name, the answer in numbers, for a text that is written its length, the bytes that were lent, and
 // the record, words and roots that are left. The expected lines, worked out from document 02, stand in the
 // file `stdout`, and the gate compares.
+#![tactic(auto)]
+
 mod readings;
 mod texts;
 

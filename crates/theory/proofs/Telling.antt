@@ -26,6 +26,7 @@ use Rattle.model.specs.Reading.{Parsed, tree, parsed}
 use Rattle.model.specs.Reading as Reading
 use Rattle.model.specs.Headers.{Layout}
 use Rattle.model.specs.Laws as Law
+use Rattle.model.specs.Objects.{index, field_index}
 use Rattle.model.specs.Sessions.{step, machine}
 use Rattle.model.specs.Shape.{bad_length}
 use Rattle.model.specs.Soundness.{sound}
@@ -111,6 +112,10 @@ numbers_apart j k e = sym (numbered j) ∙ ap refusal_of e ∙ numbered k
 data Back (c : Call) : Outcome State → Type 0 where
   back : {o : Outcome State} → heard c (told o.answer) ≡ o.answer → Back c o
 
+-- an answer that is read back, whatever is left
+says_back : (c : Call) (x : Answer) (t : State) → heard c (told x) ≡ x → Back c (says x t)
+says_back c x t e = back {o = says x t} e
+
 refused-back : (c : Call) (k : Refusal) → heard c (told (Says.Refused k)) ≡ Says.Refused k
 refused-back c k =
     rw (ne_eqb (number k) 0 (no_zero k)) (ap Says.Refused (numbered k))
@@ -144,7 +149,7 @@ module _ (Y : Layout) (s : State) where
   reads-back r (Reading.broken k) = back (refused-back (Ask.Read r) k)
 
   writes-back : (r : ℕ) (x : Spelled) → Back (Ask.Write r) (writes (λ t. with_text t s) s s.text x)
-  writes-back r (whole bs) = back refl
+  writes-back r (whole bs) = says_back (Ask.Write r) (Says.Written (length bs)) _ refl
   writes-back r (broken k) = back (refused-back (Ask.Write r) k)
 
   step_back : (c : Call) → Back c (step Y c s)
@@ -167,7 +172,8 @@ module _ (Y : Layout) (s : State) where
   step_back (Ask.Store r f from) =
       on_roots_lem (Ask.Store r f from) (r ∷ from ∷ []) _ (on_field_lem (Ask.Store r f from) Traced r f _ (back refl))
   step_back (Ask.RawRead r f) =
-      on_roots_lem (Ask.RawRead r f) (r ∷ []) _ (on_field_lem (Ask.RawRead r f) Untraced r f _ (back refl))
+      on_roots_lem (Ask.RawRead r f) (r ∷ []) _ (on_field_lem (Ask.RawRead r f) Untraced r f _
+      (says_back (Ask.RawRead r f) (Says.Number (at s.heap (field_index (index Y (root_word s r)) f))) s refl))
   step_back (Ask.RawWrite r f x) =
       on_roots_lem (Ask.RawWrite r f x) (r ∷ []) _ (on_field_lem (Ask.RawWrite r f x) Untraced r f _ (back refl))
   step_back (Ask.Same r q) =

@@ -20,7 +20,7 @@ use words::values::is_code;
 
 // What a root holds, by its sort, or why the call is refused. No number of the answer is in it: an enum that
 // carries one goes through memory, and `tell` is to answer without.
-#[derive(Drop)]
+#[derive(Clone, Copy)]
 pub enum Sort {
     Null,
     Integer,

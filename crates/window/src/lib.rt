@@ -1,6 +1,8 @@
 // The window on the object that a root names: it holds on to the lent heap words, with the object's place
 // among them. What it shows is settled by the two covered functions over the words and the place; the opener
 // and the two readers only pass on.
+#![tactic(auto)]
+
 ghost use Rattle.std.specs.Prelude.{◌≡◌};
 ghost use Rattle.model.specs.Headers as Layouts;
 ghost use Rattle.model.specs.Window as Windows;
@@ -9,7 +11,7 @@ ghost use Rattle.model.specs.Agreements.{lent};
 use model::{Answer, Place, Record, Refusal};
 
 // The lent heap words, and where the object stands among them or why there is none.
-#[derive(Drop)]
+#[derive(Clone, Copy)]
 pub struct Window<'a> {
     pub heap: &'a [u32],
     pub place: Place,

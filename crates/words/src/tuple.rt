@@ -8,7 +8,7 @@ use model::{Address, Index, Kind};
 
 // The layout of 001: bit 31 untraced, bits 1 to 30 the field count, bit 0 clear; forwarded, the new address
 // plus 1.
-#[derive(Drop)]
+#[derive(Clone, Copy)]
 pub struct Tuple;
 
 impl Tuple {

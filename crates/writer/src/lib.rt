@@ -4,6 +4,8 @@
 // A refused writer changes no byte, so it goes over the value twice: it measures the text against the bytes
 // that are lent, which ends where they run out, and spells it only where no piece of the value refused. The
 // second time nothing is left to test.
+#![tactic(auto)]
+
 ghost use Rattle.std.specs.Prelude.{◌≡◌};
 ghost use Rattle.model.specs.Headers as Layouts;
 ghost use Rattle.model.specs.Agreements.{lent_text, outcome_text};

@@ -5,6 +5,8 @@
 // number, which is returned in a register where an enum goes through memory: from `REFUSED` up it says why.
 // The root's value has a measurer of its own, so that the other has one caller: the compiler then takes it
 // into the tuple's loop, where an integer costs no call.
+#![tactic(auto)]
+
 ghost use Rattle.std.specs.Prelude.{◌≡◌, ◌+◌, ◌<◌};
 ghost use Rattle.model.specs.Texts.{max_depth, value_pieces};
 ghost use Rattle.model.specs.Headers.{tuple};

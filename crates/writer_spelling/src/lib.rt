@@ -4,6 +4,8 @@
 //
 // A value's writer and a tuple's call each other, with one level fewer each time round, and the root's value
 // has a writer of its own, as in `writer_measuring`.
+#![tactic(auto)]
+
 ghost use Rattle.std.specs.Prelude.{◌≡◌, map, ◌+◌, ◌≤◌, ◌<◌, length};
 ghost use Rattle.model.specs.Texts.{byte, max_depth, value_pieces};
 ghost use Rattle.model.specs.Headers.{tuple};
