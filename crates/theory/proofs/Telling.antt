@@ -30,7 +30,7 @@ use Rattle.model.specs.Objects.{index, field_index}
 use Rattle.model.specs.Sessions.{step, machine}
 use Rattle.model.specs.Shape.{bad_length}
 use Rattle.model.specs.Soundness.{sound}
-use Rattle.model.specs.Values.{is_odd, is_null, is_code}
+use Rattle.model.specs.Values.{is_odd, is_null, is_code, untag}
 use Rattle.model.specs.Window.{shown, window_word}
 use Rattle.model.specs.Texts.{Spelled, whole, broken, writes}
 use Rattle.model.specs.Words.{State, with_text, at}
@@ -181,10 +181,12 @@ module _ (Y : Layout) (s : State) where
       (either (Ask.Same r q) (eqb (root_word s r) (root_word s q)) Says.Yes Says.No refl refl)
   step_back (Ask.Inspect r) =
       on_roots_lem (Ask.Inspect r) (r ∷ []) _
-      (cond-holds (Back (Ask.Inspect r)) (is_odd (root_word s r)) _ _ (λ e. back refl) (λ e.
-      cond-holds (Back (Ask.Inspect r)) (is_null (root_word s r)) _ _ (λ f. back refl) (λ f.
-      cond-holds (Back (Ask.Inspect r)) (is_code (root_word s r)) _ _ (λ g. back refl) (λ g.
-      refuse_back (Ask.Inspect r) _ Why.Object s _ (back (object-back r _ _))))))
+      (cond-holds (Back (Ask.Inspect r)) (is_odd (root_word s r)) _ _
+      (λ e. says_back (Ask.Inspect r) (Says.Integer (untag (root_word s r))) s refl) (λ e.
+      cond-holds (Back (Ask.Inspect r)) (is_null (root_word s r)) _ _ (λ f. says_back (Ask.Inspect r) Says.Null s refl) (λ f.
+      cond-holds (Back (Ask.Inspect r)) (is_code (root_word s r)) _ _
+      (λ g. says_back (Ask.Inspect r) (Says.Code (root_word s r)) s refl) (λ g.
+      refuse_back (Ask.Inspect r) _ Why.Object s _ (says_back (Ask.Inspect r) _ s (object-back r _ _))))))
   step_back (Ask.Write r) = on_roots_lem (Ask.Write r) (r ∷ []) _ (writes-back r (Calls.root_spelled Y r s))
 
   pub read_back : (c : Call) → heard c (told (step Y c s).answer) ≡ (step Y c s).answer
