@@ -1,0 +1,8 @@
+-- `words::tuple::Tuple::mark` meets its contract.
+use Rattle.std.proofs.Common.{refl, rules}
+use Rattle.model.specs.Headers.{tuple}
+use Rattle.words.proofs.tuple.Tuple.mark.Goals as goal
+
+pub returns : goal.returns
+unfolding tuple
+returns c = refl
