@@ -7,7 +7,6 @@ use mathlib.Core.Bool.{Bool, true, false}
 use mathlib.Core.List.{List}
 use lib.ListN.{length, get_or}
 use borrow.Author.Tests.{lt-leb, ne_eqb}
-use Rattle.model.specs.declared.Refusal.TheVariants as Why
 use Rattle.model.specs.Texts.{max_depth}
 use Rattle.model.specs.Trees.{Tree, node, then, end, tree_words}
 use Rattle.model.specs.ReadFaults as Faults
