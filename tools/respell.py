@@ -58,7 +58,7 @@ def declared():
     """Each name that a file of specs/ or of lemmas declares, with the files; and the names among them that records have as fields."""
     names, defined = {}, set()
     for path in texts():
-        if os.path.basename(path) in ("Proof.antt", "Answers.antt", "Invariants.antt"):
+        if "/proofs/" in path and os.path.basename(path) in ("Proof.antt", "Answers.antt", "Invariants.antt"):
             continue
         for line in read(path).split("\n"):
             m = HEAD.match(line)

@@ -20,7 +20,7 @@ use Rattle.model.specs.declared.Place.{Place}
 use Rattle.model.specs.Words.{State, state_of, with_text, free}
 use Rattle.model.specs.Headers.{tuple}
 use Rattle.model.specs.Shape.{bad_length}
-use Rattle.model.specs.Answers.{Outcome, says, outcomeOf, number, told, refuse}
+use Rattle.model.specs.Answers.{Outcome, says, outcome_of, number, told, refuse}
 use Rattle.model.specs.Calls.{fresh, inspect}
 use Rattle.model.specs.Laws.{changes_record}
 use Rattle.model.specs.Window.{window}
@@ -73,7 +73,7 @@ module _ {T : Type 0} (returns : Told → CRecord → T) (c : CRecord) where
 
   -- of a call that is lent no bytes
   pub crosses : {H' R' : List ℕ} {q : Record} {o : Answered} {r : T} (H R : List ℕ) (k : Call)
-      → q ≡ taken c → outcomeOf o H' R' ≡ step tuple k (state_of H R q)
+      → q ≡ taken c → outcome_of o H' R' ≡ step tuple k (state_of H R q)
       → r ≡ returns (told o.answer) (back c o.«record») → given_of r H' R' [] ≡ called_of returns (step tuple k) H R [] c
   crosses H R k e f g = crosses_text H R [] k e f g
 
@@ -99,7 +99,7 @@ keeps-text {o = o} returns c H R t k n e f g = crosses_text (keeping returns) c 
 
 pub keeps : {T : Type 0} {H' R' : List ℕ} {q : Record} {o : Answered} {r : T} (returns : Told → T) (c : CRecord)
     (H R : List ℕ) (k : Call) → changes_record k ≡ false
-    → q ≡ taken c → outcomeOf o H' R' ≡ step tuple k (state_of H R q)
+    → q ≡ taken c → outcome_of o H' R' ≡ step tuple k (state_of H R q)
     → r ≡ returns (told o.answer) → given_of (r, c) H' R' [] ≡ called_of (keeping returns) (step tuple k) H R [] c
 keeps returns c H R k n e f g = keeps-text returns c H R [] k n e f g
 
@@ -162,13 +162,13 @@ narrow_text c H R t k e f n = subst (λ (o : Outcome State). Narrow (free o.left
     (step_narrow tuple (lent_of H R t _) (taken_narrow c e n) k)
 
 pub narrow : {H' R' : List ℕ} {q : Record} {o : Answered} (c : CRecord) (H R : List ℕ) (k : Call)
-    → q ≡ taken c → outcomeOf o H' R' ≡ step tuple k (state_of H R q)
+    → q ≡ taken c → outcome_of o H' R' ≡ step tuple k (state_of H R q)
     → Narrow c.free → Narrow o.«record».free.0
 narrow c H R k e f n = narrow_text c H R [] k e f n
 
 -- fresh: it does not look at the record that it is given
 pub fresh_crosses : {H' : List ℕ} {o : Answered} {r : CResult} (H : List ℕ) (q : Record) (c : CRecord)
-    → outcomeOf o H' [] ≡ fresh (state_of H [] q)
+    → outcome_of o H' [] ≡ fresh (state_of H [] q)
     → r ≡ result_of (told o.answer) (fresh_back (told o.answer) c o.«record») → given_of r H' [] [] ≡ begun H c
 unfolding fresh refuse begun
 fresh_crosses {H'} H q c f e =
@@ -189,7 +189,7 @@ fresh_crosses {H'} H q c f e =
     go false e = rw e
 
 pub fresh_narrow : {H' : List ℕ} {o : Answered} (H : List ℕ) (q : Record) (c : CRecord)
-    → q ≡ taken c → outcomeOf o H' [] ≡ fresh (state_of H [] q)
+    → q ≡ taken c → outcome_of o H' [] ≡ fresh (state_of H [] q)
     → Narrow c.free → Narrow o.«record».free.0
 unfolding fresh refuse
 fresh_narrow H q c e f n = subst (λ (o : Outcome State). Narrow (free o.left)) (sym f) (go (bad_length (length H)) refl)

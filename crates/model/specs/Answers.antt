@@ -19,8 +19,8 @@ abbrev pub says : {L : Type 0} → Answer → L → Outcome L
 says a s = record { answer = a; left = s }
 
 -- the outcome of a by-value call, from what it returned and the words that it left: a promise is one equation of this
-abbrev pub outcomeOf : Answered → List ℕ → List ℕ → Outcome State
-outcomeOf a H R = says a.answer (state_of H R a.«record»)
+abbrev pub outcome_of : Answered → List ℕ → List ℕ → Outcome State
+outcome_of a H R = says a.answer (state_of H R a.«record»)
 
 -- refused where the test holds, and nothing changes; otherwise what follows
 unfoldable pub refuse : {L : Type 0} → Bool → Refusal → L → Outcome L → Outcome L
@@ -46,14 +46,14 @@ number Why.Text = 12
 abbrev pub tells : ℕ → ℕ → ℕ → Told
 tells k h v = record { refusal = k; holds = h; integer = pos 0; value = v; length = 0; objects = 0; addresses = 0 }
 
-abbrev pub tellsInteger : ℤ → Told
-tellsInteger v = record { refusal = 0; holds = 1; integer = v; value = 0; length = 0; objects = 0; addresses = 0 }
+abbrev pub tells_integer : ℤ → Told
+tells_integer v = record { refusal = 0; holds = 1; integer = v; value = 0; length = 0; objects = 0; addresses = 0 }
 
-abbrev pub tellsLength : ℕ → Told
-tellsLength n = record { refusal = 0; holds = 0; integer = pos 0; value = 0; length = n; objects = 0; addresses = 0 }
+abbrev pub tells_length : ℕ → Told
+tells_length n = record { refusal = 0; holds = 0; integer = pos 0; value = 0; length = n; objects = 0; addresses = 0 }
 
-abbrev pub tellsCounts : Counts → Told
-tellsCounts c = record {
+abbrev pub tells_counts : Counts → Told
+tells_counts c = record {
   refusal = 0;
   holds = 0;
   integer = pos 0;
@@ -65,16 +65,16 @@ tellsCounts c = record {
 
 abbrev pub told : Answer → Told
 told Says.Done = tells 0 0 0
-told (Says.Live c) = tellsCounts c
+told (Says.Live c) = tells_counts c
 told Says.Sound = tells 0 0 1
 told Says.Unsound = tells 0 0 0
 told Says.Yes = tells 0 0 1
 told Says.No = tells 0 0 0
 told Says.Null = tells 0 0 0
-told (Says.Integer v) = tellsInteger v
+told (Says.Integer v) = tells_integer v
 told (Says.Object Traced n) = tells 0 2 n
 told (Says.Object Untraced n) = tells 0 3 n
 told (Says.Code w) = tells 0 4 w
 told (Says.Number w) = tells 0 0 w
-told (Says.Written n) = tellsLength n
+told (Says.Written n) = tells_length n
 told (Says.Refused k) = tells (number k) 0 0

@@ -4,7 +4,7 @@ use Rattle.model.specs.declared.Half.TheVariants.{A, B}
 use Rattle.model.specs.declared.Call.TheVariants as Ask
 use Rattle.model.specs.declared.Told.{Told}
 use Rattle.model.specs.Words.{State}
-use Rattle.model.specs.Answers.{tellsLength}
+use Rattle.model.specs.Answers.{tells_length}
 use Rattle.model.specs.Worked.{Case, expected, ran, done, refused, state, p5, p5', p5_with, blank}
 
 -- ---- the words that these cases are written in
@@ -24,7 +24,7 @@ writes s r n a t = record {
 }
 
 abbrev pub written : State → ℕ → List ℕ → ℕ → Case
-written s r t rest = writes s r (length t + rest) (tellsLength (length t)) (t ++ dots rest)
+written s r t rest = writes s r (length t + rest) (tells_length (length t)) (t ++ dots rest)
 
 abbrev pub not_written : State → ℕ → ℕ → ℕ → Case
 not_written s r n k = writes s r n (refused k) (dots n)

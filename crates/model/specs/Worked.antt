@@ -18,7 +18,7 @@ use Rattle.model.specs.Objects.{names}
 use Rattle.model.specs.Discovery.{mem, visit, visits, packed, words_before, found}
 use Rattle.model.specs.Soundness.{tiles, headers_from, is_value, fields_are_values, sound}
 use Rattle.model.specs.Collection.{addresses_in, word_leads, order_at, live, addresses_among, counts, rename, copied}
-use Rattle.model.specs.Answers.{Outcome, refuse, tells, tellsInteger, told}
+use Rattle.model.specs.Answers.{Outcome, refuse, tells, tells_integer, told}
 use Rattle.model.specs.Changes.{placed, laid, planted}
 use Rattle.model.specs.Calls.{fresh, fresh_record, check, collect, allocate, set_integer, set_null, set_code, copy, load, store}
 use Rattle.model.specs.Calls.{raw_read, raw_write, same, inspect, word_form, write, read}
@@ -90,7 +90,7 @@ abbrev pub holds_null : Told
 holds_null = tells 0 0 0
 
 abbrev pub holds_integer : ℤ → Told
-holds_integer v = tellsInteger v
+holds_integer v = tells_integer v
 
 abbrev pub holds_traced : ℕ → Told
 holds_traced n = tells 0 2 n

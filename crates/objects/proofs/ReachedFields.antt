@@ -17,7 +17,7 @@ use Rattle.model.specs.Words.{State, state_of, at}
 use Rattle.model.specs.Headers.{Layout}
 use Rattle.model.specs.Objects.{index, kind, field_count, field_index, names}
 use Rattle.model.specs.Shape.{bad_shape}
-use Rattle.model.specs.Answers.{Outcome, says, outcomeOf, refuse}
+use Rattle.model.specs.Answers.{Outcome, says, outcome_of, refuse}
 use Rattle.model.specs.Changes.{no_root, root_word, with_root, with_word}
 use Rattle.model.specs.Calls.{is_of_kind, on_field, load, store, raw_read, raw_write}
 use Rattle.naming.specs.declared.Field.{Field}
@@ -40,7 +40,7 @@ same_number s e = ap (λ (x : ℕ). says (Says.Number x) s) e
 pub written : {r : Answered} {o : Outcome State} {y : ℕ} (s : State) (i x : ℕ)
     → r ≡ record { answer = Says.Done; «record» = s.«record» }
     → says Says.Done (state_of (set s.heap i y) s.roots s.«record») ≡ o → x ≡ y
-    → outcomeOf r (set s.heap i x) s.roots ≡ o
+    → outcome_of r (set s.heap i x) s.roots ≡ o
 written s i x e f n = said _ _ e (ap (λ (x : ℕ). says Says.Done (state_of (set s.heap i x) s.roots s.«record»)) n ∙ f)
 
 answered_refuse : (b : Bool) (k : Refusal) (x : Field) (s : State) (next : ℕ → Outcome State)

@@ -12,7 +12,7 @@ use Rattle.model.specs.declared.Call.TheVariants as Ask
 use Rattle.model.specs.declared.Answer.TheVariants as Says
 use Rattle.model.specs.Words.{state_of}
 use Rattle.model.specs.Headers.{tuple}
-use Rattle.model.specs.Answers.{says, outcomeOf, told}
+use Rattle.model.specs.Answers.{says, outcome_of, told}
 use Rattle.model.specs.Calls.{allocate}
 use Rattle.model.specs.Sessions.{step}
 use Rattle.theory.proofs.Tests.{never}
@@ -34,7 +34,7 @@ back-there c p e = rw e
 module _ {H' R' : List ℕ} {q : Record} (k : Kind) (c : CRecord) (H R : List ℕ) (n r : ℕ) (e : q ≡ taken c) where
   -- ---- by the whole call
 
-  module _ {o : Answered} (g : outcomeOf o H' R' ≡ allocate tuple k n r (state_of H R q)) where
+  module _ {o : Answered} (g : outcome_of o H' R' ≡ allocate tuple k n r (state_of H R q)) where
     pub whole_crosses : {a : CResult} → a ≡ result_of (told o.answer) (back c o.«record»)
         → given_of a H' R' [] ≡ called_of result_of (allocate tuple k n r) H R [] c
     unfolding step

@@ -9,11 +9,11 @@ use Rattle.model.specs.declared.Answer.{Answer}
 use Rattle.model.specs.declared.Answer.TheVariants as Says
 use Rattle.model.specs.declared.Answered.{Answered}
 use Rattle.model.specs.Words.{State, state_of}
-use Rattle.model.specs.Answers.{Outcome, says, outcomeOf, refuse}
+use Rattle.model.specs.Answers.{Outcome, says, outcome_of, refuse}
 
 pub said : {r : Answered} {a : Answer} {q : Record} {o : Outcome State} (H R : List ℕ)
-    → r ≡ record { answer = a; «record» = q } → says a (state_of H R q) ≡ o → outcomeOf r H R ≡ o
-said H R e f = ap (λ (x : Answered). outcomeOf x H R) e ∙ f
+    → r ≡ record { answer = a; «record» = q } → says a (state_of H R q) ≡ o → outcome_of r H R ≡ o
+said H R e f = ap (λ (x : Answered). outcome_of x H R) e ∙ f
 
 -- a refusal whose test holds is given; one whose test fails leaves what follows
 pub applies : {b : Bool} {k : Refusal} {s : State} (next : Outcome State) → b ≡ true
