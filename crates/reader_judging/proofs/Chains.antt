@@ -7,14 +7,13 @@ use mathlib.Core.Bool.{Bool, true, false}
 use mathlib.Core.List.{List}
 use lib.ListN.{length, get_or}
 use borrow.Author.Tests.{lt-leb, ne_eqb}
-use Rattle.model.specs.declared.Refusal.TheVariants as Why
 use Rattle.model.specs.Texts.{max_depth}
 use Rattle.model.specs.Trees.{Tree, node, then, end, tree_words}
 use Rattle.model.specs.ReadFaults as Faults
 use Rattle.model.specs.Reading.{Open, brace, height, start, braced, numbered, whole, go, begin}
 use Rattle.theory.proofs.Tests.{never}
 use Rattle.reader_numerals.specs.Numerals.{rest}
-use Rattle.reader_judging.specs.Places.{braces, wrapped, Stuck, OpensOne, Opened, Closed, Room, Reads}
+use Rattle.reader_judging.specs.Places.{braces, wrapped, OpensOne, Opened, Closed, Reads}
 use Rattle.reader_numerals.proofs.Steps.{step_to}
 use Rattle.reader_judging.proofs.Forests.{one-words}
 use Rattle.reader_judging.proofs.Sorts.{missing, refused}
@@ -25,14 +24,6 @@ begin-brace o b e h = rw (e, lt-leb max_depth (height o) h)
 -- ---- "{1="
 
 module _ (t : List ℕ) (at : ℕ) where
-  -- "{" is not there
-  pub no_brace : (at < length t → get_or t at 0 ≡ 123 → ⊥) → OpensOne t at false
-  no_brace z = record {
-    within = λ e. never e refl;
-    leads = λ e. never e refl;
-    stuck = λ _ h b. absurd (z h b);
-  }
-
   module _ (h : at < length t) (b : get_or t at 0 ≡ 123) where
     -- "1" is not
     pub no_one : (at + 1 < length t → get_or t (at + 1) 0 ≡ 49 → ⊥) → OpensOne t at false
@@ -94,22 +85,6 @@ module _ (t : List ℕ) (at d : ℕ) where
   none-opened h = record { most = omega arith; is = omega arith; within = h; leads = λ o q. refl }
 
   module _ (place k : ℕ) (so : Opening t at d place k) where
-    opened_by : Stuck t place (d - k) → Opened t at d k
-    opened_by s =
-        let e = so.is in
-        record {
-          most = so.most;
-          within = omega (arith, so.within);
-          leads = λ o q. so.leads o q ∙ ap (λ (i : ℕ). rest t (go (start (braces k o))) i) e;
-          stuck = rw (sym e) s;
-        }
-
-    pub all-opened : d ≤ k → Opened t at d k
-    all-opened h = opened_by (record { stuck = λ m. absurd (omega (arith, so.most)) })
-
-    pub no_more-opened : (r : Bool) → OpensOne t place r → r ≡ false → Opened t at d k
-    no_more-opened r one e = opened_by (record { stuck = λ _ h b o l. one.stuck e h b o l })
-
     pub one-opened : (r : Bool) → OpensOne t place r → r ≡ true → k < d → Opening t at d (place + 3) (k + 1)
     one-opened r one e m = record {
       most = omega arith;
@@ -192,9 +167,6 @@ wrapped-words zero x = omega arith
 wrapped-words (suc k) x = omega (arith, one-words (wrapped k x), wrapped-words k x)
 
 module _ (d : ℕ) (t : List ℕ) (at w k : ℕ) (opened : Opened t at d k) where
-  pub inner_room : Room 0 t at w → Room 0 t (at + 3 * k) w
-  inner_room room = record { within = opened.within; words = omega (arith, room.words) }
-
   inside : (o : Open) → height o + (d + 0) ≡ max_depth → height (braces k o) + (d - k + 0) ≡ max_depth
   inside o q = omega (arith, opened.most, height-braces k o)
 
@@ -206,11 +178,6 @@ module _ (d : ℕ) (t : List ℕ) (at w k : ℕ) (opened : Opened t at d k) wher
     no_inner r w' e f g = refused start 0 d t at w r w' u f g (λ o q. into o q ∙ read.stops e (braces k o) (inside o q))
 
     module _ (z : p ≡ 0 → ⊥) where
-      pub sums : Room 0 t at w → (u + 3 * k ≤ p) × (p ≤ length t) × (0 < p)
-      sums room =
-          let y = read.comes z in
-          (omega (arith, y.words_fit, room.words), y.within, omega (arith, y.beyond))
-
       module _ (r : ℕ) (closed : Closed t p k r) where
         pub not_closed : (s w' : ℕ) → r ≡ 0 → s ≡ 0 → w' ≡ 10 → Reads start 0 d t at w s w'
         not_closed s w' e f g =

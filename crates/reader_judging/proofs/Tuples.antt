@@ -13,10 +13,10 @@ use Rattle.model.specs.Trees.{Tree, node, end, count, forest_words}
 use Rattle.model.specs.Reading.{Open, paren, height, forest_of, none_yet, start, opened, whole, go, bad, follow, broken}
 use Rattle.theory.proofs.Tests.{by_test, decide, same?}
 use Rattle.reader_numerals.specs.Numerals.{rest}
-use Rattle.reader_judging.specs.Places.{why_of, Room, Closes, Reads}
+use Rattle.reader_judging.specs.Places.{why_of, Closes, Reads}
 use Rattle.reader_numerals.proofs.Steps.{step_to, at-end}
 use Rattle.reader_judging.proofs.Forests.{count-more, words_more, none-counts, some_yet, not-none_yet}
-use Rattle.reader_judging.proofs.Sorts.{missing, refused}
+use Rattle.reader_judging.proofs.Sorts.{missing}
 
 -- the fields up to a place where one is to begin, behind "(" at `at`, with d levels left
 pub record Fields (d : ℕ) (t : List ℕ) (at w₀ w place fields : ℕ) : Type 0 where
@@ -80,23 +80,11 @@ follow-none x ts o b z f =
     (same? b 41)
 
 module _ (d : ℕ) (t : List ℕ) (at w₀ w place fields : ℕ) (so : Fields d t at w₀ w place fields) where
-  pub field_room : Room 1 t at w₀ → Room 0 t place w
-  field_room room = record { within = so.within; words = omega (arith, so.words_fit, room.words) }
-
   module _ (p u : ℕ) (read : Reads start 0 d t place w p u) where
-    pub bad-field : (r w' : ℕ) → p ≡ 0 → r ≡ 0 → w' ≡ u → Reads opened 1 d t at w₀ r w'
-    bad-field r w' e f g =
-        refused opened 1 d t at w₀ r w' u f g
-        (λ o q. so.leads o q ∙ read.stops e (paren so.so_far o) (omega arith))
-
     module _ (z : p ≡ 0 → ⊥) where
       on : (o : Open) → height o + (d + 1) ≡ max_depth
           → rest t (go (opened o)) at ≡ rest t (go (whole (read.comes z).stood (paren so.so_far o))) p
       on o q = so.leads o q ∙ (read.comes z).leads (paren so.so_far o) (omega arith)
-
-      -- words have room, and so has what a closer adds
-      pub closer-room : Room 1 t at w₀ → u + (fields + 1) ≤ p
-      closer-room room = let y = read.comes z in omega (arith, so.words_fit, y.words_fit, room.words)
 
       pub more-fields : (q : ℕ) → p < length t → get_or t p 0 ≡ 44 → q ≡ p + 1 → Fields d t at w₀ u q (fields + 1)
       more-fields i h e f =

@@ -57,7 +57,7 @@ fn refuse(words: &mut usize, why: usize) -> usize
 
 // A value, with so many levels left. Tuples of one field may stand in each other many times over: they are
 // gone through by turns, not by calls.
-#[cycle(innermost_singles_tuple_value)]
+#[cycle(values)]
 fn value(text: &[u8], at: usize, depth: usize, words: &mut usize) -> usize
     requires { Room 0 text.now at words.old }
     ensures { Reads start 0 depth text.now at words.old result
@@ -133,7 +133,7 @@ fn closings(text: &[u8], at: usize, levels: usize) -> usize
 }
 
 // Tuples of one field that stand in each other, with what the innermost holds.
-#[cycle(innermost_singles_tuple_value)]
+#[cycle(values)]
 fn singles(text: &[u8], at: usize, depth: usize, words: &mut usize) -> usize
     requires { Room 0 text.now at words.old }
     ensures { Reads start 0 depth text.now at words.old result
@@ -154,7 +154,7 @@ fn singles(text: &[u8], at: usize, depth: usize, words: &mut usize) -> usize
 
 // A value that is no tuple of one field. It is `value` but for that: one function that both call would be
 // called for each integer.
-#[cycle(innermost_singles_tuple_value)]
+#[cycle(values)]
 fn innermost(text: &[u8], at: usize, depth: usize, words: &mut usize) -> usize
     requires { (Room 0 text.now at words.old) × (Stuck text.now at depth) }
     ensures { Reads start 0 depth text.now at words.old result
@@ -182,7 +182,7 @@ fn innermost(text: &[u8], at: usize, depth: usize, words: &mut usize) -> usize
 }
 
 // A tuple of no field, or of two or more, from behind "(", whose values have so many levels left.
-#[cycle(innermost_singles_tuple_value)]
+#[cycle(values)]
 fn tuple(text: &[u8], at: usize, depth: usize, words: &mut usize) -> usize
     requires { Room 1 text.now at words.old }
     ensures { Reads opened 1 depth text.now at words.old result

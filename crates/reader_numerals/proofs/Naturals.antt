@@ -81,13 +81,6 @@ module _ (t : List ℕ) (from most n : ℕ) where
 
 -- ---- an integer
 
-pub sign_small : (b sign : ℕ) → sign ≡ cond (eqb b minus) 1 0 → sign ≤ 1
-sign_small b sign e =
-    ⊎_elim
-    (λ (p : eqb b minus ≡ true). let s : sign ≡ 1 = e ∙ ap (λ (q : Bool). cond q 1 0) p in omega arith)
-    (λ (p : eqb b minus ≡ false). let s : sign ≡ 0 = e ∙ ap (λ (q : Bool). cond q 1 0) p in omega arith)
-    (by_test (eqb b minus))
-
 pub signed-zero : (neg : Bool) → signed neg 0 ≡ pos 0
 signed-zero true = refl
 signed-zero false = refl
