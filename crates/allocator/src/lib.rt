@@ -20,8 +20,8 @@ fn retry(
     to: usize,
 ) -> Answered
     requires { (fields ≤ max_fields) × (to < length roots.old) }
-    ensures { outcome result heap roots
-        ≡ retried Layouts.tuple kind fields to (lent heap roots «record») }
+    ensures { outcome result heap.new roots.new
+        ≡ retried Layouts.tuple kind fields to (lent heap.old roots.old «record») }
 {
     if checker::is_sound(heap, roots, record) {
         let all = roots.len();
@@ -47,8 +47,8 @@ pub fn allocate(
     fields: usize,
     to: usize,
 ) -> Answered
-    ensures { outcome result heap roots
-        ≡ Calls.allocate Layouts.tuple kind fields to (lent heap roots «record») }
+    ensures { outcome result heap.new roots.new
+        ≡ Calls.allocate Layouts.tuple kind fields to (lent heap.old roots.old «record») }
 {
     if words::shape::bad_shape(heap.len(), roots.len(), record) {
         return say(Answer::Refused(Refusal::Shape), record);

@@ -11,7 +11,7 @@ use words::shape::bad_length;
 // and then the record that it was handed. Leaves the roots, and looks neither at them nor at what the record
 // says.
 pub fn fresh(heap: &mut [u32], roots: &[u32], record: Record) -> Answered
-    ensures { outcome result heap roots ≡ Calls.fresh (lent heap roots «record») }
+    ensures { outcome result heap.new roots.now ≡ Calls.fresh (lent heap.old roots.now «record») }
 {
     let length = heap.len();
     if bad_length(length) {

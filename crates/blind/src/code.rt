@@ -10,7 +10,7 @@ use words::values::is_code;
 // Root `to` gets a code word: done, or SHAPE, ROOT or RANGE. Leaves the heap and the record, and looks at no
 // heap word.
 pub fn set_code(heap: &[u32], roots: &mut [u32], record: Record, to: usize, word: u32) -> Answered
-    ensures { outcome result heap roots ≡ Calls.set_code to word (lent heap roots «record») }
+    ensures { outcome result heap.now roots.new ≡ Calls.set_code to word (lent heap.now roots.old «record») }
 {
     if bad_shape(heap.len(), roots.len(), record) {
         return say(Answer::Refused(Refusal::Shape), record);

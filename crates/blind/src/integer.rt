@@ -16,7 +16,8 @@ pub fn set_integer(
     to: usize,
     value: i64,
 ) -> Answered
-    ensures { outcome result heap roots ≡ Calls.set_integer to value (lent heap roots «record») }
+    ensures { outcome result heap.now roots.new
+        ≡ Calls.set_integer to value (lent heap.now roots.old «record») }
 {
     if bad_shape(heap.len(), roots.len(), record) {
         return say(Answer::Refused(Refusal::Shape), record);

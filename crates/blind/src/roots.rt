@@ -8,7 +8,7 @@ use words::shape::{bad_shape, no_root};
 
 // Root `to` gets null: done, or SHAPE or ROOT. Leaves the heap and the record.
 pub fn set_null(heap: &[u32], roots: &mut [u32], record: Record, to: usize) -> Answered
-    ensures { outcome result heap roots ≡ Calls.set_null to (lent heap roots «record») }
+    ensures { outcome result heap.now roots.new ≡ Calls.set_null to (lent heap.now roots.old «record») }
 {
     if bad_shape(heap.len(), roots.len(), record) {
         return say(Answer::Refused(Refusal::Shape), record);
@@ -22,7 +22,7 @@ pub fn set_null(heap: &[u32], roots: &mut [u32], record: Record, to: usize) -> A
 
 // Root `to` gets root `from`'s word, whatever it is: done, or SHAPE or ROOT. Leaves the heap and the record.
 pub fn copy(heap: &[u32], roots: &mut [u32], record: Record, from: usize, to: usize) -> Answered
-    ensures { outcome result heap roots ≡ Calls.copy from to (lent heap roots «record») }
+    ensures { outcome result heap.now roots.new ≡ Calls.copy from to (lent heap.now roots.old «record») }
 {
     if bad_shape(heap.len(), roots.len(), record) {
         return say(Answer::Refused(Refusal::Shape), record);
@@ -36,7 +36,7 @@ pub fn copy(heap: &[u32], roots: &mut [u32], record: Record, from: usize, to: us
 
 // Whether two roots hold equal words: yes or no, or SHAPE or ROOT. Leaves all as it was.
 pub fn same(heap: &[u32], roots: &[u32], record: Record, one: usize, other: usize) -> Answered
-    ensures { outcome result heap roots ≡ Calls.same one other (lent heap roots «record») }
+    ensures { outcome result heap.now roots.now ≡ Calls.same one other (lent heap.now roots.now «record») }
 {
     if bad_shape(heap.len(), roots.len(), record) {
         return say(Answer::Refused(Refusal::Shape), record);

@@ -87,7 +87,7 @@ fn part_of(half_words: usize, record: Record) -> Part
 
 // Whether the heap is sound. No word differs afterwards. For the calls that collect, too.
 pub fn is_sound(heap: &mut [u32], roots: &[u32], record: Record) -> bool
-    ensures { (result ≡ sound tuple (lent heap roots «record»)) × (heap.new ≡ heap.old) }
+    ensures { (result ≡ sound tuple (lent heap.old roots.now «record»)) × (heap.new ≡ heap.old) }
 {
     if shape::bad_shape(heap.len(), roots.len(), record) {
         return false;
@@ -102,7 +102,7 @@ pub fn is_sound(heap: &mut [u32], roots: &[u32], record: Record) -> bool
 
 // The call check.
 pub fn check(heap: &mut [u32], roots: &[u32], record: Record) -> Answered
-    ensures { outcome result heap roots ≡ Calls.check tuple (lent heap roots «record») }
+    ensures { outcome result heap.new roots.now ≡ Calls.check tuple (lent heap.old roots.now «record») }
 {
     if shape::bad_shape(heap.len(), roots.len(), record) {
         return say(Answer::Refused(Refusal::Shape), record);

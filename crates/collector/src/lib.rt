@@ -11,7 +11,8 @@ use model::{Answer, Answered, Record, Refusal, say};
 // Copies what the roots reach to the other half, and clears this one: live words, live objects and addresses
 // met; or SHAPE or DAMAGED. Every object may move; the roots follow.
 pub fn collect(heap: &mut [u32], roots: &mut [u32], record: Record) -> Answered
-    ensures { outcome result heap roots ≡ Calls.collect Layouts.tuple (lent heap roots «record») }
+    ensures { outcome result heap.new roots.new
+        ≡ Calls.collect Layouts.tuple (lent heap.old roots.old «record») }
 {
     if words::shape::bad_shape(heap.len(), roots.len(), record) {
         return say(Answer::Refused(Refusal::Shape), record);

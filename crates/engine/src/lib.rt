@@ -68,8 +68,8 @@ fn evacuate(heap: &mut [u32], roots: &mut [u32], old: Index, used: usize, new: I
 // words are cleared.
 pub fn collect_sound(heap: &mut [u32], roots: &mut [u32], record: Record) -> Collected
     requires { sound tuple (state_of heap.old roots.old «record») ≡ true }
-    ensures { says (Says.Live result.counts) (leaves heap roots result.«record»)
-        ≡ collection tuple (lent heap roots «record») }
+    ensures { says (Says.Live result.counts) (leaves heap.new roots.new result.«record»)
+        ≡ collection tuple (lent heap.old roots.old «record») }
 {
     let half_words = shape::half_words(heap.len());
     let half = record.half;
@@ -101,8 +101,8 @@ pub fn collect_sound(heap: &mut [u32], roots: &mut [u32], record: Record) -> Col
 pub fn collect_among(heap: &mut [u32], roots: &mut [u32], count: usize, record: Record) -> Collected
     requires { (count ≡ length roots.old)
         × (sound tuple (state_of heap.old roots.old «record») ≡ true) }
-    ensures { says (Says.Live result.counts) (leaves heap roots result.«record»)
-        ≡ collection tuple (lent heap roots «record») }
+    ensures { says (Says.Live result.counts) (leaves heap.new roots.new result.«record»)
+        ≡ collection tuple (lent heap.old roots.old «record») }
 {
     collect_sound(heap, &mut roots[..count], record)
 }

@@ -17,8 +17,8 @@ pub fn load(
     field: usize,
     to: usize,
 ) -> Answer
-    ensures { thin_outcome result heap roots «record»
-        ≡ Calls.load Layouts.tuple object field to (thin_lent heap roots «record») }
+    ensures { thin_outcome result heap.new roots.new «record».new
+        ≡ Calls.load Layouts.tuple object field to (thin_lent heap.old roots.old «record».old) }
 {
     let answered = host_by_value::load(heap, roots, *record, object, field, to);
     *record = answered.record;
@@ -35,8 +35,8 @@ pub fn store(
     field: usize,
     from: usize,
 ) -> Answer
-    ensures { thin_outcome result heap roots «record»
-        ≡ Calls.store Layouts.tuple object field from (thin_lent heap roots «record») }
+    ensures { thin_outcome result heap.new roots.new «record».new
+        ≡ Calls.store Layouts.tuple object field from (thin_lent heap.old roots.old «record».old) }
 {
     let answered = host_by_value::store(heap, roots, *record, object, field, from);
     *record = answered.record;
@@ -51,8 +51,8 @@ pub fn raw_read(
     object: usize,
     field: usize,
 ) -> Answer
-    ensures { thin_outcome result heap roots «record»
-        ≡ Calls.raw_read Layouts.tuple object field (thin_lent heap roots «record») }
+    ensures { thin_outcome result heap.new roots.new «record».new
+        ≡ Calls.raw_read Layouts.tuple object field (thin_lent heap.old roots.old «record».old) }
 {
     let answered = host_by_value::raw_read(heap, roots, *record, object, field);
     *record = answered.record;
@@ -69,8 +69,8 @@ pub fn raw_write(
     field: usize,
     number: u32,
 ) -> Answer
-    ensures { thin_outcome result heap roots «record»
-        ≡ Calls.raw_write Layouts.tuple object field number (thin_lent heap roots «record») }
+    ensures { thin_outcome result heap.new roots.new «record».new
+        ≡ Calls.raw_write Layouts.tuple object field number (thin_lent heap.old roots.old «record».old) }
 {
     let answered = host_by_value::raw_write(heap, roots, *record, object, field, number);
     *record = answered.record;

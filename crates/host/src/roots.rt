@@ -16,8 +16,8 @@ pub fn set_integer(
     to: usize,
     value: i64,
 ) -> Answer
-    ensures { thin_outcome result heap roots «record»
-        ≡ Calls.set_integer to value (thin_lent heap roots «record») }
+    ensures { thin_outcome result heap.new roots.new «record».new
+        ≡ Calls.set_integer to value (thin_lent heap.old roots.old «record».old) }
 {
     let answered = host_by_value::set_integer(heap, roots, *record, to, value);
     *record = answered.record;
@@ -26,7 +26,8 @@ pub fn set_integer(
 
 // Root `to` gets null: done, or SHAPE or ROOT. Leaves the heap and the record, and looks at no heap word.
 pub fn set_null(heap: &mut [u32], roots: &mut [u32], record: &mut Record, to: usize) -> Answer
-    ensures { thin_outcome result heap roots «record» ≡ Calls.set_null to (thin_lent heap roots «record») }
+    ensures { thin_outcome result heap.new roots.new «record».new
+        ≡ Calls.set_null to (thin_lent heap.old roots.old «record».old) }
 {
     let answered = host_by_value::set_null(heap, roots, *record, to);
     *record = answered.record;
@@ -42,8 +43,8 @@ pub fn set_code(
     to: usize,
     word: u32,
 ) -> Answer
-    ensures { thin_outcome result heap roots «record»
-        ≡ Calls.set_code to word (thin_lent heap roots «record») }
+    ensures { thin_outcome result heap.new roots.new «record».new
+        ≡ Calls.set_code to word (thin_lent heap.old roots.old «record».old) }
 {
     let answered = host_by_value::set_code(heap, roots, *record, to, word);
     *record = answered.record;
@@ -59,7 +60,8 @@ pub fn copy(
     from: usize,
     to: usize,
 ) -> Answer
-    ensures { thin_outcome result heap roots «record» ≡ Calls.copy from to (thin_lent heap roots «record») }
+    ensures { thin_outcome result heap.new roots.new «record».new
+        ≡ Calls.copy from to (thin_lent heap.old roots.old «record».old) }
 {
     let answered = host_by_value::copy(heap, roots, *record, from, to);
     *record = answered.record;
@@ -75,8 +77,8 @@ pub fn same(
     one: usize,
     other: usize,
 ) -> Answer
-    ensures { thin_outcome result heap roots «record»
-        ≡ Calls.same one other (thin_lent heap roots «record») }
+    ensures { thin_outcome result heap.new roots.new «record».new
+        ≡ Calls.same one other (thin_lent heap.old roots.old «record».old) }
 {
     let answered = host_by_value::same(heap, roots, *record, one, other);
     *record = answered.record;
@@ -87,8 +89,8 @@ pub fn same(
 // ROOT or OBJECT. Leaves all as it was. Of the heap it looks at the header that the root names, and at no
 // field.
 pub fn inspect(heap: &mut [u32], roots: &mut [u32], record: &mut Record, root: usize) -> Answer
-    ensures { thin_outcome result heap roots «record»
-        ≡ Calls.inspect Layouts.tuple root (thin_lent heap roots «record») }
+    ensures { thin_outcome result heap.new roots.new «record».new
+        ≡ Calls.inspect Layouts.tuple root (thin_lent heap.old roots.old «record».old) }
 {
     let answered = host_by_value::inspect(heap, roots, *record, root);
     *record = answered.record;

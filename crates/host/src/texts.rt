@@ -17,8 +17,8 @@ pub fn write(
     root: usize,
     text: &mut [u8],
 ) -> Answer
-    ensures { thin_outcome_text result heap roots «record» text
-        ≡ Calls.write Layouts.tuple root (thin_lent_text heap roots «record» text) }
+    ensures { thin_outcome_text result heap.new roots.new «record».new text.new
+        ≡ Calls.write Layouts.tuple root (thin_lent_text heap.old roots.old «record».old text.old) }
 {
     let answered = host_by_value::write(heap, roots, *record, root, text);
     *record = answered.record;
@@ -35,8 +35,8 @@ pub fn read(
     to: usize,
     text: &mut [u8],
 ) -> Answer
-    ensures { thin_outcome_text result heap roots «record» text
-        ≡ Calls.read Layouts.tuple to (thin_lent_text heap roots «record» text) }
+    ensures { thin_outcome_text result heap.new roots.new «record».new text.new
+        ≡ Calls.read Layouts.tuple to (thin_lent_text heap.old roots.old «record».old text.old) }
 {
     let answered = host_by_value::read(heap, roots, *record, to, text);
     *record = answered.record;

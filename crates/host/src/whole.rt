@@ -11,7 +11,8 @@ use model::{Answer, Call, Kind, Record};
 // Clears all heap words and sets the record to half A and free index 1: done, or the heap-length part of
 // SHAPE, and then the record stays. Leaves the roots, and looks neither at them nor at what the record says.
 pub fn fresh(heap: &mut [u32], roots: &mut [u32], record: &mut Record) -> Answer
-    ensures { thin_outcome result heap roots «record» ≡ Calls.fresh (thin_lent heap roots «record») }
+    ensures { thin_outcome result heap.new roots.new «record».new
+        ≡ Calls.fresh (thin_lent heap.old roots.old «record».old) }
 {
     let answered = host_by_value::fresh(heap, roots, *record);
     *record = answered.record;
@@ -21,8 +22,8 @@ pub fn fresh(heap: &mut [u32], roots: &mut [u32], record: &mut Record) -> Answer
 // Whether the heap is sound, or SHAPE. Leaves all as it was: the marks that it makes in the heap are cleared
 // again.
 pub fn check(heap: &mut [u32], roots: &mut [u32], record: &mut Record) -> Answer
-    ensures { thin_outcome result heap roots «record»
-        ≡ Calls.check Layouts.tuple (thin_lent heap roots «record») }
+    ensures { thin_outcome result heap.new roots.new «record».new
+        ≡ Calls.check Layouts.tuple (thin_lent heap.old roots.old «record».old) }
 {
     let answered = host_by_value::check(heap, roots, *record);
     *record = answered.record;
@@ -32,8 +33,8 @@ pub fn check(heap: &mut [u32], roots: &mut [u32], record: &mut Record) -> Answer
 // Copies what the roots reach to the other half, and clears this one: live words, live objects and addresses
 // met; or SHAPE or DAMAGED. Every object may move; the roots and the record follow.
 pub fn collect(heap: &mut [u32], roots: &mut [u32], record: &mut Record) -> Answer
-    ensures { thin_outcome result heap roots «record»
-        ≡ Calls.collect Layouts.tuple (thin_lent heap roots «record») }
+    ensures { thin_outcome result heap.new roots.new «record».new
+        ≡ Calls.collect Layouts.tuple (thin_lent heap.old roots.old «record».old) }
 {
     let answered = collector::collect(heap, roots, *record);
     *record = answered.record;
@@ -51,8 +52,8 @@ pub fn allocate(
     fields: usize,
     to: usize,
 ) -> Answer
-    ensures { thin_outcome result heap roots «record»
-        ≡ Calls.allocate Layouts.tuple kind fields to (thin_lent heap roots «record») }
+    ensures { thin_outcome result heap.new roots.new «record».new
+        ≡ Calls.allocate Layouts.tuple kind fields to (thin_lent heap.old roots.old «record».old) }
 {
     let answered = allocator::allocate(heap, roots, *record, kind, fields, to);
     *record = answered.record;
@@ -68,8 +69,8 @@ pub fn step(
     call: Call,
     text: &mut [u8],
 ) -> Answer
-    ensures { thin_outcome_text result heap roots «record» text
-        ≡ Sessions.step Layouts.tuple call (thin_lent_text heap roots «record» text) }
+    ensures { thin_outcome_text result heap.new roots.new «record».new text.new
+        ≡ Sessions.step Layouts.tuple call (thin_lent_text heap.old roots.old «record».old text.old) }
 {
     let answered = session::step(heap, roots, *record, call, text);
     *record = answered.record;

@@ -11,13 +11,14 @@ ghost use Rattle.model.specs.Calls as Calls;
 use model::{Answered, Record};
 
 pub fn fresh(heap: &mut [u32], roots: &mut [u32], record: Record) -> Answered
-    ensures { outcome result heap roots ≡ Calls.fresh (lent heap roots «record») }
+    ensures { outcome result heap.new roots.new ≡ Calls.fresh (lent heap.old roots.old «record») }
 {
     blind::fresh(heap, roots, record)
 }
 
 pub fn check(heap: &mut [u32], roots: &mut [u32], record: Record) -> Answered
-    ensures { outcome result heap roots ≡ Calls.check Layouts.tuple (lent heap roots «record») }
+    ensures { outcome result heap.new roots.new
+        ≡ Calls.check Layouts.tuple (lent heap.old roots.old «record») }
 {
     checker::check(heap, roots, record)
 }
@@ -29,13 +30,14 @@ pub fn set_integer(
     to: usize,
     value: i64,
 ) -> Answered
-    ensures { outcome result heap roots ≡ Calls.set_integer to value (lent heap roots «record») }
+    ensures { outcome result heap.new roots.new
+        ≡ Calls.set_integer to value (lent heap.old roots.old «record») }
 {
     blind::set_integer(heap, roots, record, to, value)
 }
 
 pub fn set_null(heap: &mut [u32], roots: &mut [u32], record: Record, to: usize) -> Answered
-    ensures { outcome result heap roots ≡ Calls.set_null to (lent heap roots «record») }
+    ensures { outcome result heap.new roots.new ≡ Calls.set_null to (lent heap.old roots.old «record») }
 {
     blind::set_null(heap, roots, record, to)
 }
@@ -47,13 +49,13 @@ pub fn set_code(
     to: usize,
     word: u32,
 ) -> Answered
-    ensures { outcome result heap roots ≡ Calls.set_code to word (lent heap roots «record») }
+    ensures { outcome result heap.new roots.new ≡ Calls.set_code to word (lent heap.old roots.old «record») }
 {
     blind::set_code(heap, roots, record, to, word)
 }
 
 pub fn copy(heap: &mut [u32], roots: &mut [u32], record: Record, from: usize, to: usize) -> Answered
-    ensures { outcome result heap roots ≡ Calls.copy from to (lent heap roots «record») }
+    ensures { outcome result heap.new roots.new ≡ Calls.copy from to (lent heap.old roots.old «record») }
 {
     blind::copy(heap, roots, record, from, to)
 }
@@ -65,13 +67,14 @@ pub fn same(
     one: usize,
     other: usize,
 ) -> Answered
-    ensures { outcome result heap roots ≡ Calls.same one other (lent heap roots «record») }
+    ensures { outcome result heap.new roots.new ≡ Calls.same one other (lent heap.old roots.old «record») }
 {
     blind::same(heap, roots, record, one, other)
 }
 
 pub fn inspect(heap: &mut [u32], roots: &mut [u32], record: Record, root: usize) -> Answered
-    ensures { outcome result heap roots ≡ Calls.inspect Layouts.tuple root (lent heap roots «record») }
+    ensures { outcome result heap.new roots.new
+        ≡ Calls.inspect Layouts.tuple root (lent heap.old roots.old «record») }
 {
     views::inspect(heap, roots, record, root)
 }
@@ -84,8 +87,8 @@ pub fn load(
     field: usize,
     to: usize,
 ) -> Answered
-    ensures { outcome result heap roots
-        ≡ Calls.load Layouts.tuple object field to (lent heap roots «record») }
+    ensures { outcome result heap.new roots.new
+        ≡ Calls.load Layouts.tuple object field to (lent heap.old roots.old «record») }
 {
     objects::load(heap, roots, record, object, field, to)
 }
@@ -98,8 +101,8 @@ pub fn store(
     field: usize,
     from: usize,
 ) -> Answered
-    ensures { outcome result heap roots
-        ≡ Calls.store Layouts.tuple object field from (lent heap roots «record») }
+    ensures { outcome result heap.new roots.new
+        ≡ Calls.store Layouts.tuple object field from (lent heap.old roots.old «record») }
 {
     objects::store(heap, roots, record, object, field, from)
 }
@@ -111,8 +114,8 @@ pub fn raw_read(
     object: usize,
     field: usize,
 ) -> Answered
-    ensures { outcome result heap roots
-        ≡ Calls.raw_read Layouts.tuple object field (lent heap roots «record») }
+    ensures { outcome result heap.new roots.new
+        ≡ Calls.raw_read Layouts.tuple object field (lent heap.old roots.old «record») }
 {
     objects::raw_read(heap, roots, record, object, field)
 }
@@ -125,8 +128,8 @@ pub fn raw_write(
     field: usize,
     number: u32,
 ) -> Answered
-    ensures { outcome result heap roots
-        ≡ Calls.raw_write Layouts.tuple object field number (lent heap roots «record») }
+    ensures { outcome result heap.new roots.new
+        ≡ Calls.raw_write Layouts.tuple object field number (lent heap.old roots.old «record») }
 {
     objects::raw_write(heap, roots, record, object, field, number)
 }
@@ -138,8 +141,8 @@ pub fn write(
     root: usize,
     text: &mut [u8],
 ) -> Answered
-    ensures { outcome_text result heap roots text
-        ≡ Calls.write Layouts.tuple root (lent_text heap roots «record» text) }
+    ensures { outcome_text result heap.new roots.new text.new
+        ≡ Calls.write Layouts.tuple root (lent_text heap.old roots.old «record» text.old) }
 {
     writer::write(heap, roots, record, root, text)
 }
@@ -151,8 +154,8 @@ pub fn read(
     to: usize,
     text: &mut [u8],
 ) -> Answered
-    ensures { outcome_text result heap roots text
-        ≡ Calls.read Layouts.tuple to (lent_text heap roots «record» text) }
+    ensures { outcome_text result heap.new roots.new text.new
+        ≡ Calls.read Layouts.tuple to (lent_text heap.old roots.old «record» text.old) }
 {
     reader::read(heap, roots, record, to, text)
 }

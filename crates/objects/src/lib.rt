@@ -23,7 +23,7 @@ fn reach(
     field: usize,
     other: usize,
 ) -> Field
-    ensures { result ≡ reached Layouts.tuple kind object field other (lent heap roots «record») }
+    ensures { result ≡ reached Layouts.tuple kind object field other (lent heap.now roots.now «record») }
 {
     if bad_shape(heap.len(), roots.len(), record) {
         return Field::Refused(Refusal::Shape);
@@ -44,8 +44,8 @@ pub fn load(
     field: usize,
     to: usize,
 ) -> Answered
-    ensures { outcome result heap roots
-        ≡ Calls.load Layouts.tuple object field to (lent heap roots «record») }
+    ensures { outcome result heap.now roots.new
+        ≡ Calls.load Layouts.tuple object field to (lent heap.now roots.old «record») }
 {
     let found = reach(heap, roots, record, Kind::Traced, object, field, to);
     match found {
@@ -68,8 +68,8 @@ pub fn store(
     field: usize,
     from: usize,
 ) -> Answered
-    ensures { outcome result heap roots
-        ≡ Calls.store Layouts.tuple object field from (lent heap roots «record») }
+    ensures { outcome result heap.new roots.now
+        ≡ Calls.store Layouts.tuple object field from (lent heap.old roots.now «record») }
 {
     let target = reach(heap, roots, record, Kind::Traced, object, field, from);
     match target {
@@ -90,8 +90,8 @@ pub fn raw_read(
     object: usize,
     field: usize,
 ) -> Answered
-    ensures { outcome result heap roots
-        ≡ Calls.raw_read Layouts.tuple object field (lent heap roots «record») }
+    ensures { outcome result heap.now roots.now
+        ≡ Calls.raw_read Layouts.tuple object field (lent heap.now roots.now «record») }
 {
     let found = reach(heap, roots, record, Kind::Untraced, object, field, object);
     match found {
@@ -114,8 +114,8 @@ pub fn raw_write(
     field: usize,
     number: u32,
 ) -> Answered
-    ensures { outcome result heap roots
-        ≡ Calls.raw_write Layouts.tuple object field number (lent heap roots «record») }
+    ensures { outcome result heap.new roots.now
+        ≡ Calls.raw_write Layouts.tuple object field number (lent heap.old roots.now «record») }
 {
     let target = reach(heap, roots, record, Kind::Untraced, object, field, object);
     match target {

@@ -18,8 +18,8 @@ pub extern "C" fn phachunoi_load(
     field: usize,
     to: usize,
 ) -> CAnswer
-    ensures { kept result heap roots «record»
-        ≡ called (keeping answer_of) (Calls.load Layouts.tuple object field to) heap roots «record» }
+    ensures { kept result heap.now roots.new «record»
+        ≡ called (keeping answer_of) (Calls.load Layouts.tuple object field to) heap.now roots.old «record» }
 {
     let done = objects::load(heap, roots, record_of(record), object, field, to);
     let said = done.answer;
@@ -36,8 +36,8 @@ pub extern "C" fn phachunoi_store(
     field: usize,
     from: usize,
 ) -> CAnswer
-    ensures { kept result heap roots «record»
-        ≡ called (keeping answer_of) (Calls.store Layouts.tuple object field from) heap roots «record» }
+    ensures { kept result heap.new roots.now «record»
+        ≡ called (keeping answer_of) (Calls.store Layouts.tuple object field from) heap.old roots.now «record» }
 {
     let done = objects::store(heap, roots, record_of(record), object, field, from);
     let said = done.answer;
@@ -53,8 +53,8 @@ pub extern "C" fn phachunoi_raw_read(
     object: usize,
     field: usize,
 ) -> CAnswer
-    ensures { kept result heap roots «record»
-        ≡ called (keeping answer_of) (Calls.raw_read Layouts.tuple object field) heap roots «record» }
+    ensures { kept result heap.now roots.now «record»
+        ≡ called (keeping answer_of) (Calls.raw_read Layouts.tuple object field) heap.now roots.now «record» }
 {
     let done = objects::raw_read(heap, roots, record_of(record), object, field);
     let said = done.answer;
@@ -71,8 +71,8 @@ pub extern "C" fn phachunoi_raw_write(
     field: usize,
     number: u32,
 ) -> CAnswer
-    ensures { kept result heap roots «record»
-        ≡ called (keeping answer_of) (Calls.raw_write Layouts.tuple object field number) heap roots «record» }
+    ensures { kept result heap.new roots.now «record»
+        ≡ called (keeping answer_of) (Calls.raw_write Layouts.tuple object field number) heap.old roots.now «record» }
 {
     let done = objects::raw_write(heap, roots, record_of(record), object, field, number);
     let said = done.answer;

@@ -28,8 +28,8 @@ pub extern "C" fn phachunoi_fresh(heap: &mut [u32], record: CRecord) -> CResult
 // afterwards.
 #[unsafe(no_mangle)]
 pub extern "C" fn phachunoi_check(heap: &mut [u32], roots: &[u32], record: CRecord) -> CAnswer
-    ensures { kept result heap roots «record»
-        ≡ called (keeping answer_of) (Calls.check Layouts.tuple) heap roots «record» }
+    ensures { kept result heap.new roots.now «record»
+        ≡ called (keeping answer_of) (Calls.check Layouts.tuple) heap.old roots.now «record» }
 {
     let done = checker::check(heap, roots, record_of(record));
     let said = done.answer;
@@ -43,8 +43,8 @@ pub extern "C" fn phachunoi_collect(
     roots: &mut [u32],
     record: CRecord,
 ) -> CCollected
-    ensures { given result heap roots
-        ≡ called Numbers.collected_of (Calls.collect Layouts.tuple) heap roots «record» }
+    ensures { given result heap.new roots.new
+        ≡ called Numbers.collected_of (Calls.collect Layouts.tuple) heap.old roots.old «record» }
 {
     let done = collector::collect(heap, roots, record_of(record));
     collected_of(record, done)
@@ -60,8 +60,8 @@ fn allocate(
     fields: usize,
     to: usize,
 ) -> CResult
-    ensures { given result heap roots
-        ≡ called Numbers.result_of (Calls.allocate Layouts.tuple kind fields to) heap roots «record» }
+    ensures { given result heap.new roots.new
+        ≡ called Numbers.result_of (Calls.allocate Layouts.tuple kind fields to) heap.old roots.old «record» }
 {
     let done = allocator::allocate(heap, roots, record_of(record), kind, fields, to);
     result_of(record, done)
@@ -77,8 +77,8 @@ pub extern "C" fn phachunoi_allocate_traced(
     fields: usize,
     to: usize,
 ) -> CResult
-    ensures { given result heap roots
-        ≡ called Numbers.result_of (Calls.allocate Layouts.tuple Traced fields to) heap roots «record» }
+    ensures { given result heap.new roots.new
+        ≡ called Numbers.result_of (Calls.allocate Layouts.tuple Traced fields to) heap.old roots.old «record» }
 {
     let taken = record_of(record);
     if placing::at_once::fits(heap.len(), roots.len(), taken, fields, to) {
@@ -96,8 +96,8 @@ pub extern "C" fn phachunoi_allocate_untraced(
     fields: usize,
     to: usize,
 ) -> CResult
-    ensures { given result heap roots
-        ≡ called Numbers.result_of (Calls.allocate Layouts.tuple Untraced fields to) heap roots «record» }
+    ensures { given result heap.new roots.new
+        ≡ called Numbers.result_of (Calls.allocate Layouts.tuple Untraced fields to) heap.old roots.old «record» }
 {
     let taken = record_of(record);
     if placing::at_once::fits(heap.len(), roots.len(), taken, fields, to) {

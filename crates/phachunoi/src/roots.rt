@@ -16,8 +16,8 @@ pub extern "C" fn phachunoi_set_integer(
     to: usize,
     value: i64,
 ) -> CAnswer
-    ensures { kept result heap roots «record»
-        ≡ called (keeping answer_of) (Calls.set_integer to value) heap roots «record» }
+    ensures { kept result heap.now roots.new «record»
+        ≡ called (keeping answer_of) (Calls.set_integer to value) heap.now roots.old «record» }
 {
     let done = blind::set_integer(heap, roots, record_of(record), to, value);
     let said = done.answer;
@@ -32,8 +32,8 @@ pub extern "C" fn phachunoi_set_null(
     record: CRecord,
     to: usize,
 ) -> CAnswer
-    ensures { kept result heap roots «record»
-        ≡ called (keeping answer_of) (Calls.set_null to) heap roots «record» }
+    ensures { kept result heap.now roots.new «record»
+        ≡ called (keeping answer_of) (Calls.set_null to) heap.now roots.old «record» }
 {
     let done = blind::set_null(heap, roots, record_of(record), to);
     let said = done.answer;
@@ -49,8 +49,8 @@ pub extern "C" fn phachunoi_set_code(
     to: usize,
     word: u32,
 ) -> CAnswer
-    ensures { kept result heap roots «record»
-        ≡ called (keeping answer_of) (Calls.set_code to word) heap roots «record» }
+    ensures { kept result heap.now roots.new «record»
+        ≡ called (keeping answer_of) (Calls.set_code to word) heap.now roots.old «record» }
 {
     let done = blind::set_code(heap, roots, record_of(record), to, word);
     let said = done.answer;
@@ -66,8 +66,8 @@ pub extern "C" fn phachunoi_copy(
     from: usize,
     to: usize,
 ) -> CAnswer
-    ensures { kept result heap roots «record»
-        ≡ called (keeping answer_of) (Calls.copy from to) heap roots «record» }
+    ensures { kept result heap.now roots.new «record»
+        ≡ called (keeping answer_of) (Calls.copy from to) heap.now roots.old «record» }
 {
     let done = blind::copy(heap, roots, record_of(record), from, to);
     let said = done.answer;
@@ -83,8 +83,8 @@ pub extern "C" fn phachunoi_same(
     one: usize,
     other: usize,
 ) -> CAnswer
-    ensures { kept result heap roots «record»
-        ≡ called (keeping answer_of) (Calls.same one other) heap roots «record» }
+    ensures { kept result heap.now roots.now «record»
+        ≡ called (keeping answer_of) (Calls.same one other) heap.now roots.now «record» }
 {
     let done = blind::same(heap, roots, record_of(record), one, other);
     let said = done.answer;
@@ -99,8 +99,8 @@ pub extern "C" fn phachunoi_inspect(
     record: CRecord,
     root: usize,
 ) -> CSeen
-    ensures { kept result heap roots «record»
-        ≡ called (keeping seen_of) (Calls.inspect Layouts.tuple root) heap roots «record» }
+    ensures { kept result heap.now roots.now «record»
+        ≡ called (keeping seen_of) (Calls.inspect Layouts.tuple root) heap.now roots.now «record» }
 {
     let seen = views::tell(heap, roots, record_of(record), root);
     seen_of(seen)

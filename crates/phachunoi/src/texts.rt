@@ -17,8 +17,8 @@ pub extern "C" fn phachunoi_write(
     root: usize,
     text: &mut [u8],
 ) -> CWritten
-    ensures { kept_text result heap roots «record» text
-        ≡ called_text (keeping written_of) (Calls.write Layouts.tuple root) heap roots «record» text }
+    ensures { kept_text result heap.now roots.now «record» text.new
+        ≡ called_text (keeping written_of) (Calls.write Layouts.tuple root) heap.now roots.now «record» text.old }
 {
     let done = writer::write(heap, roots, record_of(record), root, text);
     let said = done.answer;
@@ -34,8 +34,8 @@ pub extern "C" fn phachunoi_read(
     to: usize,
     text: &[u8],
 ) -> CResult
-    ensures { given_text result heap roots text
-        ≡ called_text result_of (Calls.read Layouts.tuple to) heap roots «record» text }
+    ensures { given_text result heap.new roots.new text.now
+        ≡ called_text result_of (Calls.read Layouts.tuple to) heap.old roots.old «record» text.now }
 {
     let done = reader::read(heap, roots, record_of(record), to, text);
     result_of(record, done)

@@ -34,8 +34,8 @@ pub fn allocate(
     to: usize,
 ) -> Record
     requires { at_once (length heap.old) (length roots.old) «record» fields to ≡ true }
-    ensures { says Says.Done (leaves heap roots result)
-        ≡ Calls.allocate Layouts.tuple kind fields to (lent heap roots «record») }
+    ensures { says Says.Done (leaves heap.new roots.new result)
+        ≡ Calls.allocate Layouts.tuple kind fields to (lent heap.old roots.old «record») }
 {
     place(heap, roots, record, kind, fields, to)
 }

@@ -37,7 +37,8 @@ pub fn place(
     to: usize,
 ) -> Record
     requires { MayPlace (state_of heap.old roots.old «record») fields to }
-    ensures { leaves heap roots result ≡ placed Layouts.tuple kind fields to (lent heap roots «record») }
+    ensures { leaves heap.new roots.new result
+        ≡ placed Layouts.tuple kind fields to (lent heap.old roots.old «record») }
 {
     let half = record.half;
     let free = record.free;

@@ -32,8 +32,8 @@ fn plant(
 ) -> Record
     requires { MayPlant (state_of heap.old roots.old «record») to words
         × ((g : Forest) × Stands text.now words g) }
-    ensures { (g : Forest) → Stands text.now words g → leaves_text heap roots result text
-        ≡ planted Layouts.tuple (node g) to (lent_text heap roots «record» text) }
+    ensures { (g : Forest) → Stands text.now words g → leaves_text heap.new roots.new result text.now
+        ≡ planted Layouts.tuple (node g) to (lent_text heap.old roots.old «record» text.now) }
 {
     let half = record.half;
     let free = record.free;
@@ -57,8 +57,8 @@ fn retry(
     words: usize,
 ) -> Answered
     requires { (to < length roots.old) × ((g : Forest) × Stands text.now words g) }
-    ensures { (g : Forest) → Stands text.now words g → outcome_text result heap roots text
-        ≡ retried Layouts.tuple g to (lent_text heap roots «record» text) }
+    ensures { (g : Forest) → Stands text.now words g → outcome_text result heap.new roots.new text.now
+        ≡ retried Layouts.tuple g to (lent_text heap.old roots.old «record» text.now) }
 {
     if checker::is_sound(heap, roots, record) {
         let all = roots.len();
@@ -84,9 +84,9 @@ fn read_tuple(
 ) -> Answered
     requires { (bad_shape_of (length heap.old) (length roots.old) «record» ≡ false)
         × (to < length roots.old) × ((g : Forest) × Stands text.now words g) }
-    ensures { (g : Forest) → Stands text.now words g → outcome_text result heap roots text
+    ensures { (g : Forest) → Stands text.now words g → outcome_text result heap.new roots.new text.now
         ≡ Calls.with_room Layouts.tuple (tree_words (node g)) (planted Layouts.tuple (node g) to)
-        (lent_text heap roots «record» text) }
+        (lent_text heap.old roots.old «record» text.now) }
 {
     if words <= placing::spare_of(heap.len(), record) {
         let planted = plant(heap, roots, record, to, text, words);
@@ -99,8 +99,8 @@ fn read_tuple(
 // words, and is read even where the heap is damaged. If a tuple's words are free, nothing moves; if not,
 // every object may move, also where the answer is ROOM.
 pub fn read(heap: &mut [u32], roots: &mut [u32], record: Record, to: usize, text: &[u8]) -> Answered
-    ensures { outcome_text result heap roots text
-        ≡ Calls.read Layouts.tuple to (lent_text heap roots «record» text) }
+    ensures { outcome_text result heap.new roots.new text.now
+        ≡ Calls.read Layouts.tuple to (lent_text heap.old roots.old «record» text.now) }
 {
     if words::shape::bad_shape(heap.len(), roots.len(), record) {
         return say(Answer::Refused(Refusal::Shape), record);

@@ -29,7 +29,8 @@ pub fn is_digit(byte: u8) -> bool
 // Where the digits of an integer in range end at the latest.
 fn last_of(length: usize, from: usize) -> usize
     requires { from < length }
-    ensures { (from < result) × (result ≤ length) × (result ≤ from + 10) × (result < length → result ≡ from + 10) }
+    ensures { (from < result) × (result ≤ length) × (result ≤ from + 10) × (result < length → result
+        ≡ from + 10) }
 {
     if length - from <= MOST_DIGITS {
         return length;

@@ -18,8 +18,8 @@ pub fn step(
     call: Call,
     text: &mut [u8],
 ) -> Answered
-    ensures { outcome_text result heap roots text
-        ≡ Sessions.step Layouts.tuple call (lent_text heap roots «record» text) }
+    ensures { outcome_text result heap.new roots.new text.new
+        ≡ Sessions.step Layouts.tuple call (lent_text heap.old roots.old «record» text.old) }
 {
     match call {
         Call::Collect => collect(heap, roots, record),

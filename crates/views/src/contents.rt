@@ -30,7 +30,7 @@ pub enum Sort {
 }
 
 fn sort_of(heap: &[u32], roots: &[u32], record: Record, root: usize) -> Sort
-    ensures { result ≡ sort_of Layouts.tuple root (lent heap roots «record») }
+    ensures { result ≡ sort_of Layouts.tuple root (lent heap.now roots.now «record») }
 {
     if bad_shape(heap.len(), roots.len(), record) {
         return Sort::Refused(Refusal::Shape);
@@ -67,7 +67,8 @@ fn header_of(heap: &[u32], word: u32) -> u32
 // ROOT or OBJECT. Leaves all as it was. Of the heap it looks at the header that the root names, and at no
 // field.
 pub fn inspect(heap: &[u32], roots: &[u32], record: Record, root: usize) -> Answered
-    ensures { outcome result heap roots ≡ Calls.inspect Layouts.tuple root (lent heap roots «record») }
+    ensures { outcome result heap.now roots.now
+        ≡ Calls.inspect Layouts.tuple root (lent heap.now roots.now «record») }
 {
     match sort_of(heap, roots, record, root) {
         Sort::Null => say(Answer::Null, record),
@@ -89,7 +90,7 @@ pub fn inspect(heap: &[u32], roots: &[u32], record: Record, root: usize) -> Answ
 // The same in document 01's numbers, a place for each, for a host that counts refusals and not names.
 pub fn tell(heap: &[u32], roots: &[u32], record: Record, root: usize) -> Seen
     ensures { result
-        ≡ seen_of (told (Calls.inspect Layouts.tuple root (lent heap roots «record»)).answer) }
+        ≡ seen_of (told (Calls.inspect Layouts.tuple root (lent heap.now roots.now «record»)).answer) }
 {
     match sort_of(heap, roots, record, root) {
         Sort::Null => seen::null(),

@@ -12,7 +12,7 @@ use words::tuple::Tuple;
 // Where the object that a root names stands, of either kind, with its field count; or SHAPE, ROOT or OBJECT.
 // It looks at the header, and at no field.
 pub fn find(heap: &[u32], roots: &[u32], record: Record, object: usize) -> Place
-    ensures { result ≡ window Layouts.tuple object (lent heap roots «record») }
+    ensures { result ≡ window Layouts.tuple object (lent heap.now roots.now «record») }
 {
     if bad_shape(heap.len(), roots.len(), record) {
         return Place::Refused(Refusal::Shape);

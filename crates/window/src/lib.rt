@@ -56,7 +56,7 @@ pub fn word_at(heap: &[u32], place: Place, field: usize) -> Answer
 // object it looks at the header, and at no field.
 pub fn open<'a>(heap: &'a [u32], roots: &[u32], record: Record, object: usize) -> Window<'a>
     ensures { (result.heap ≡ heap.entry)
-        × (result.place ≡ Windows.window Layouts.tuple object (lent heap roots «record»)) }
+        × (result.place ≡ Windows.window Layouts.tuple object (lent heap.now roots.now «record»)) }
 {
     let place = views::place::find(heap, roots, record, object);
     Window { heap, place }

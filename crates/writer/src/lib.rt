@@ -19,8 +19,8 @@ use writer_spelling::spell_root;
 // The text of what root `root` holds, into the first bytes of `text`: its length; or SHAPE, ROOT, OBJECT,
 // VALUE, DEEP or TEXT, and then no byte changes. Leaves the heap, the roots and the record.
 pub fn write(heap: &[u32], roots: &[u32], record: Record, root: usize, text: &mut [u8]) -> Answered
-    ensures { outcome_text result heap roots text
-        ≡ Calls.write Layouts.tuple root (lent_text heap roots «record» text) }
+    ensures { outcome_text result heap.now roots.now text.new
+        ≡ Calls.write Layouts.tuple root (lent_text heap.now roots.now «record» text.old) }
 {
     if bad_shape(heap.len(), roots.len(), record) {
         return say(Answer::Refused(Refusal::Shape), record);

@@ -1,11 +1,7 @@
 -- `runs::all_zero` meets its contract. Invariant: the words left are all 0 exactly where all are.
-use mathlib.Core.Path.{◌≡◌, refl, sym, ◌∙◌}
-use Prim.Native.Nat.{◌+◌}
+use mathlib.Core.Path.{sym, ◌∙◌}
 use native.Mathlib.Omega.{arith}
 use borrow.Author.Tests.{eq-eqb, ne_eqb}
-use Rattle.model.specs.Soundness.{all}
-use Rattle.model.specs.Values.{is_null}
-use Rattle.runs.specs.Runs.{run}
 use Rattle.runs.proofs.RunLaws.{zero-passed, zero_failed}
 use Rattle.runs.proofs.all_zero.Goals as goal
 

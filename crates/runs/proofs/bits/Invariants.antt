@@ -1,12 +1,10 @@
 -- `runs::bits` meets its contract. Invariant: no bit yet exactly where each word passed is 0.
-use mathlib.Core.Path.{◌≡◌, refl}
+use mathlib.Core.Path.{◌≡◌}
 use Prim.Native.Nat.{◌-◌, ◌≤◌}
-use native.Mathlib.Omega.{arith}
 use lib.Dec.{eqb}
 use Rattle.model.specs.Soundness.{all}
 use Rattle.model.specs.Values.{is_null}
 use Rattle.runs.specs.Runs.{run}
-use Rattle.runs.proofs.RunLaws.{bits-more}
 use Rattle.runs.proofs.bits.Given as goal
 
 abbrev pub invariant-loop-i : goal.invariant-loop-i

@@ -2,15 +2,8 @@
 use native.Mathlib.Omega.{arith}
 use native.Mathlib.Nat.{add-zero}
 use mathlib.Core.Path.{◌≡◌}
-use lib.ListN.{length-set}
 use Rattle.runs.specs.Runs.{cleared}
-use borrow.Author.Rules.{rules}
 use Rattle.runs.proofs.clear_few.Goals as goal
-use Rattle.runs.proofs.clear_few.Goals.{Else-n-eq2, Start}
-
--- where the call begins
-abbrev start : Else-n-eq2 → Start
-start c = c.before.before.before
 
 pub returns-then-n-eq0 : goal.returns-then-n-eq0
 unfolding cleared
@@ -26,8 +19,8 @@ returns-then-n-eq2 c = let e : c.args.n ≡ 2 = omega arith in simp (e, add-zero
 
 pub returns-then-n-eq3 : goal.returns-then-n-eq3
 unfolding cleared
-returns-then-n-eq3 c = let e : (start c.before).args.n ≡ 3 = omega arith in simp (e, add-zero)
+returns-then-n-eq3 c = let e : c.args.n ≡ 3 = omega arith in simp (e, add-zero)
 
 pub returns : goal.returns
 unfolding cleared
-returns c = let e : (start c.before).args.n ≡ 4 = omega arith in simp (e, add-zero)
+returns c = let e : c.args.n ≡ 4 = omega arith in simp (e, add-zero)

@@ -1,9 +1,8 @@
 -- `runs::clear_run` meets its contract. Invariant: the list is `cleared` of what it was, at the turns made.
-use mathlib.Core.Path.{◌≡◌, refl}
-use Prim.Native.Nat.{◌≤◌, ◌-◌}
+use mathlib.Core.Path.{refl}
 use native.Mathlib.Numerals.{add-one}
 use native.Mathlib.Omega.{arith}
-use lib.ListN.{length, length-set}
+use lib.ListN.{length-set}
 use Rattle.runs.specs.Runs.{cleared}
 use Rattle.runs.proofs.clear_run.Goals as goal
 

@@ -1,9 +1,7 @@
 -- `runs::clear_run` meets its contract. Invariant: the list is `cleared` of what it was, at the turns made.
-use mathlib.Core.Path.{◌≡◌, refl}
+use mathlib.Core.Path.{◌≡◌}
 use Prim.Native.Nat.{◌≤◌, ◌-◌}
-use native.Mathlib.Numerals.{add-one}
-use native.Mathlib.Omega.{arith}
-use lib.ListN.{length, length-set}
+use lib.ListN.{length}
 use Rattle.runs.specs.Runs.{cleared}
 use Rattle.runs.proofs.clear_run.Given as goal
 

@@ -1,14 +1,12 @@
 -- `runs::copy_eights` meets its contract. Invariant: the list is `copied_run` of what it was, at the words passed.
-use mathlib.Core.Path.{◌≡◌, refl}
+use mathlib.Core.Path.{◌≡◌}
 use Prim.Native.Nat.{◌+◌, ◌-◌, ◌<◌}
-use native.Mathlib.Omega.{arith}
 use lib.ListN.{length}
 use Rattle.runs.specs.Runs.{copied_run}
-use Rattle.runs.proofs.RunLaws.{apart_less, apart-part, copied_parts}
 use Rattle.runs.proofs.copy_eights.Given as goal
 
 abbrev pub invariant-loop-i : goal.invariant-loop-i
-invariant-loop-i l =     (l.i < l.last + 8) × (l.heap-1 ≡ copied_run l.initial.heap-1 l.from l.to l.i) × (length l.heap-1 ≡ length l.initial.heap-1)
+invariant-loop-i l = (l.i < l.last + 8) × (l.heap ≡ copied_run l.initial.heap l.from l.to l.i) × (length l.heap ≡ length l.initial.heap)
 
 abbrev pub decreases-loop-i : goal.decreases-loop-i
 decreases-loop-i l = l.last - l.i

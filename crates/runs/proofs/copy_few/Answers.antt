@@ -2,18 +2,8 @@
 use native.Mathlib.Omega.{arith}
 use native.Mathlib.Nat.{add-zero}
 use mathlib.Core.Path.{◌≡◌}
-use lib.ListN.{length-set}
 use Rattle.runs.specs.Runs.{copied_run}
-use borrow.Author.Rules.{rules}
 use Rattle.runs.proofs.copy_few.Goals as goal
-use Rattle.runs.proofs.copy_few.Goals.{After-slice_known-2-1, After-slice_known-3-1, Start}
-
--- where the call begins, and where the second word is read
-abbrev start : After-slice_known-2-1 → Start
-start c = c.before.before.before.before
-
-abbrev second : After-slice_known-3-1 → After-slice_known-2-1
-second c = c.before.before
 
 pub returns-then-n-eq0 : goal.returns-then-n-eq0
 unfolding copied_run
@@ -25,12 +15,12 @@ returns-then-n-eq1 c = let e : c.args.n ≡ 1 = omega arith in simp (e, add-zero
 
 pub returns-then-n-eq2 : goal.returns-then-n-eq2
 unfolding copied_run
-returns-then-n-eq2 c = let e : (start c.before).args.n ≡ 2 = omega arith in simp (e, add-zero)
+returns-then-n-eq2 c = let e : c.args.n ≡ 2 = omega arith in simp (e, add-zero)
 
 pub returns-then-n-eq3 : goal.returns-then-n-eq3
 unfolding copied_run
-returns-then-n-eq3 c = let e : (start (second c.before)).args.n ≡ 3 = omega arith in simp (e, add-zero)
+returns-then-n-eq3 c = let e : c.args.n ≡ 3 = omega arith in simp (e, add-zero)
 
 pub returns : goal.returns
 unfolding copied_run
-returns c = let e : (start (second c.before.before)).args.n ≡ 4 = omega arith in simp (e, add-zero)
+returns c = let e : c.args.n ≡ 4 = omega arith in simp (e, add-zero)
