@@ -55,8 +55,9 @@ pub stack_grown : (A : List ℕ) (n : ℕ) → 1 ≤ n → n ≤ length A
 unfolding stack_of
 stack_grown A zero h l = absurd (omega arith)
 stack_grown A (suc n) h l =
-    rw (sub-one (suc n))
-    (ap (λ (x : ℕ). x ∷ stack_of (set A n (get_or A n 0 + 1)) n) (get_or-set_same A n (get_or A n 0 + 1) 0 (omega arith))
+    let e : suc n - 1 ≡ n = omega arith in
+    ap (λ (m : ℕ). stack_of (set A m (get_or A m 0 + 1)) (suc n)) e
+    ∙ (ap (λ (x : ℕ). x ∷ stack_of (set A n (get_or A n 0 + 1)) n) (get_or-set_same A n (get_or A n 0 + 1) 0 (omega arith))
     ∙ ap (λ (s : List ℕ). (get_or A n 0 + 1) ∷ s) (stack_below A n n (get_or A n 0 + 1) (omega arith)))
 
 -- ---- one more in front of words that are stored
