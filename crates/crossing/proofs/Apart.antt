@@ -12,7 +12,6 @@ use Rattle.model.specs.declared.Answer.{Answer}
 use Rattle.model.specs.declared.Call.{Call}
 use Rattle.model.specs.declared.Call.TheVariants as Ask
 use Rattle.model.specs.declared.Place.{Place}
-use Rattle.model.specs.declared.Place.TheVariants as Place
 use Rattle.model.specs.declared.Told.{Told}
 use Rattle.model.specs.Words.{State, at}
 use Rattle.model.specs.Headers.{Layout}

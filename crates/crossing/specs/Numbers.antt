@@ -8,7 +8,6 @@ use Rattle.model.specs.declared.Refusal.TheVariants as Why
 use Rattle.model.specs.declared.Answer.{Answer}
 use Rattle.model.specs.declared.Answer.TheVariants as Says
 use Rattle.model.specs.declared.Place.{Place}
-use Rattle.model.specs.declared.Place.TheVariants as Place
 use Rattle.model.specs.declared.Told.{Told}
 use Rattle.model.specs.Words.{State, state_of, with_text, at}
 use Rattle.model.specs.Shape.{bad_length}
