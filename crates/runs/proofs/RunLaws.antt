@@ -34,9 +34,6 @@ outside_less from n k o = ⊎_elim (λ l. inl l) (λ l. inr (omega arith)) o
 pub apart_less : (from to m n : ℕ) → m ≤ n → Apart from to n → Apart from to m
 apart_less from to m n l o = ⊎_elim (λ a. inl (omega arith)) (λ a. inr (omega arith)) o
 
-pub apart-part : (from to i k n : ℕ) → i + k ≤ n → Apart from to n → Apart (from + i) (to + i) k
-apart-part from to i k n l o = ⊎_elim (λ a. inl (omega arith)) (λ a. inr (omega arith)) o
-
 apart-outside : (from to i n j : ℕ) → i ≤ n → j < n → Apart from to n → Outside to i (from + j)
 apart-outside from to i n j l b o = ⊎_elim (λ a. inl (omega arith)) (λ a. inr (omega arith)) o
 

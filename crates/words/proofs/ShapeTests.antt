@@ -1,9 +1,7 @@
 -- SHAPE's tests of a length and of a free index, each by whether a number lies in a run.
-use Rattle.std.proofs.Common.{◌≡◌, ℕ, suc, ◌+◌, ◌/◌, ◌%◌, ◌<◌, ◌≤◌, Bool, not, ◌&&◌, ◌||◌, ltb, leb, refl, ⊎_elim, arith, le-ltb, lt-ltb, ne_eqb, le-leb}
+use Rattle.std.proofs.Common.{◌≡◌, ℕ, suc, ◌+◌, ◌<◌, ◌≤◌, Bool, not, ◌&&◌, ◌||◌, ltb, leb, refl, ⊎_elim, arith, le-ltb, lt-ltb, le-leb}
 use borrow.Author.Tests.{lt-leb}
 use Rattle.theory.proofs.Tests.{decide}
-use Rattle.model.specs.Limits.{max_half, max_words}
-use Rattle.model.specs.Shape.{bad_length}
 
 -- a number lies outside a run where it is below the first or not below the end, each by whatever test says it
 outside : (at first end : ℕ) {below beyond : Bool} → ltb at first ≡ below → leb end at ≡ beyond
@@ -28,14 +26,6 @@ same_test a b c d f g =
     (λ (k : b < a). rw (lt-leb a b k, lt-leb c d (g k)))
     (λ (k : a ≤ b). rw (le-leb a b k, le-leb c d (f k)))
     (decide b a)
-
--- an odd length is bad just where the words of its half are none of those that a half may have
-pub length_tests : (n : ℕ) → (n % 2 ≡ 0 → ⊥) → not (leb 1 (n / 2) && ltb (n / 2) (1 + max_half)) ≡ bad_length n
-length_tests n odd =
-    rw (ne_eqb (n % 2) 0 odd) (
-    outside (n / 2) 1 (1 + max_half)
-    (same_test (suc (n / 2)) 1 (suc n) 3 (λ k. omega arith) (λ k. omega arith))
-    (same_test (1 + max_half) (n / 2) (suc max_words) n (λ k. omega arith) (λ k. omega arith)))
 
 -- a free index may be any of the half's words or the one past them, at the half's first word as the code has it
 pub free_tests : (free start first S count : ℕ) → start ≡ first → count ≡ S + 1

@@ -1,9 +1,8 @@
 -- `words::shape::bad_shape` meets its contract, test by test.
-use Rattle.std.proofs.Common.{◌≡◌, true, false, not, sym, refl, ap, ◌∙◌, arith, rules, le-ltb, lt-ltb}
+use Rattle.std.proofs.Common.{◌≡◌, true, false, not, sym, refl, ap, ◌∙◌, arith, le-ltb, lt-ltb}
 use Rattle.model.specs.Words.{half_words_of, first_of}
 use Rattle.model.specs.Shape.{bad_length, bad_shape_of}
 use Rattle.theory.proofs.Tests.{or_right}
-use Rattle.theory.proofs.Shape.{GoodLength, good_length, first-most}
 use Rattle.words.proofs.FirstWords.{first_by_length}
 use Rattle.words.proofs.ShapeTests.{free_tests}
 use Rattle.words.proofs.shape.bad_shape.Goals as goal

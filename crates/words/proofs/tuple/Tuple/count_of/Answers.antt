@@ -1,5 +1,5 @@
 -- `words::tuple::Tuple::count_of` meets its contract.
-use Rattle.std.proofs.Common.{refl, arith, rules}
+use Rattle.std.proofs.Common.{refl}
 use Rattle.model.specs.Headers.{tuple}
 use Rattle.words.proofs.tuple.Tuple.count_of.Goals as goal
 

@@ -1,6 +1,6 @@
 -- `words::tuple::Tuple::index_of` meets its contract.
 use Rattle.model.specs.Headers.{tuple}
-use Rattle.std.proofs.Common.{arith, rules}
+use Rattle.std.proofs.Common.{arith}
 use Rattle.words.proofs.tuple.Tuple.index_of.Goals as goal
 
 pub returns : goal.returns

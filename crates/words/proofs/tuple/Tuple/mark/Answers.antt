@@ -1,5 +1,5 @@
 -- `words::tuple::Tuple::mark` meets its contract.
-use Rattle.std.proofs.Common.{refl, rules}
+use Rattle.std.proofs.Common.{refl}
 use Rattle.model.specs.Headers.{tuple}
 use Rattle.words.proofs.tuple.Tuple.mark.Goals as goal
 
