@@ -16,22 +16,26 @@ returns-then-word-ne0 c = λ R.
     (ne_eqb _ _ c.if-word-ne0.true) refl refl refl
 
 pub returns-then-not-in_run : goal.returns-then-not-in_run
-returns-then-not-in_run c = λ R.
+returns-then-not-in_run c =
+    let first = first_by_length _ c.args.«record».half c.first_of-first.ensures c.half_words.ensures in λ R.
     names_tests _ tuple_adjacent (state_of c.args.heap.now R c.args.«record») _ _ _ c.requires
-    c.index_of-at.ensures (first_by_length _ c.args.«record».half c.first_of-first.ensures c.half_words.ensures) (eq-eqb _ _ c.if-word-ne0.false)
+    c.index_of-at.ensures first (eq-eqb _ _ c.if-word-ne0.false)
     (sym c.in_run.ensures ∙ c.if-not-in_run.true) refl refl
 
 pub returns-then-not-is_header : goal.returns-then-not-is_header
-returns-then-not-is_header c = λ R.
+returns-then-not-is_header c =
+    let first = first_by_length _ c.args.«record».half c.first_of-first.ensures c.half_words.ensures in λ R.
     names_tests _ tuple_adjacent (state_of c.args.heap.now R c.args.«record») _ _ _ c.requires
-    c.index_of-at.ensures (first_by_length _ c.args.«record».half c.first_of-first.ensures c.half_words.ensures) (eq-eqb _ _ c.if-word-ne0.false)
+    c.index_of-at.ensures first (eq-eqb _ _ c.if-word-ne0.false)
     (sym c.in_run.ensures ∙ c.if-not-in_run.false)
     (sym c.is_header.ensures ∙ c.if-not-is_header.true) refl
 
 pub returns : goal.returns
-returns c = λ R.
+returns c =
+    let first = first_by_length _ c.args.«record».half c.first_of-first.ensures c.half_words.ensures in λ R.
     names_tests _ tuple_adjacent (state_of c.args.heap.now R c.args.«record») _ _ _ c.requires
-    c.index_of-at.ensures (first_by_length _ c.args.«record».half c.first_of-first.ensures c.half_words.ensures) (eq-eqb _ _ c.if-word-ne0.false)
+    c.index_of-at.ensures first (eq-eqb _ _ c.if-word-ne0.false)
     (sym c.in_run.ensures ∙ c.if-not-in_run.false)
     (sym c.is_header.ensures ∙ c.if-not-is_header.false)
-    (ap (λ (n : ℕ). ltb n (free (state_of c.args.heap.now R c.args.«record») - c.index_of-at.result.0)) (omega (arith, c.count_of.ensures.is)))
+    (ap (λ (n : ℕ). ltb n (free (state_of c.args.heap.now R c.args.«record») - c.index_of-at.result.0))
+    (omega (arith, c.count_of.ensures.is)))

@@ -33,12 +33,14 @@ returns-then-roots-root c =
 
 pub half_words-requires : goal.half_words-requires
 half_words-requires c =
-    let g = shaped (with_text c.args.text.now (state_of c.args.heap.now c.args.roots.now c.args.«record»)) (sym c.bad_shape.ensures ∙ c.if-bad_shape.false) in
+    let s = with_text c.args.text.now (state_of c.args.heap.now c.args.roots.now c.args.«record») in
+    let g = shaped s (sym c.bad_shape.ensures ∙ c.if-bad_shape.false) in
     omega arith
 
 pub first_of-first-requires : goal.first_of-first-requires
 first_of-first-requires c =
-    let g = shaped (with_text c.args.text.now (state_of c.args.heap.now c.args.roots.now c.args.«record»)) (sym c.bad_shape.ensures ∙ c.if-bad_shape.false) in
+    let s = with_text c.args.text.now (state_of c.args.heap.now c.args.roots.now c.args.«record») in
+    let g = shaped s (sym c.bad_shape.ensures ∙ c.if-bad_shape.false) in
     omega (arith, c.half_words.ensures)
 
 pub measure_root-left-requires : goal.measure_root-left-requires

@@ -25,7 +25,7 @@ returns-then-word-lt-NEGATIVE c =
     (unsigned a.word c.if-word-lt-NEGATIVE.true)
 
 pub bounds-text-at : goal.bounds-text-at
-bounds-text-at c = (omega (arith, c.requires, ap length (signed c.args.word c.if-word-lt-NEGATIVE.false)))
+bounds-text-at c = omega (arith, c.requires, ap length (signed c.args.word c.if-word-lt-NEGATIVE.false))
 
 pub spell_natural-requires-2 : goal.spell_natural-requires-2
 spell_natural-requires-2 c =
@@ -40,7 +40,7 @@ spell_natural-requires-2 c =
 pub returns : goal.returns
 returns c =
     let a = c.args in
+    let e = signed a.word c.if-word-lt-NEGATIVE.false in
     c.spell_natural-2.ensures
-    ∙ (one_byte minus (map byte (digits (below a.word))) a.at a.text.now (omega (arith, c.requires, ap length (signed c.args.word c.if-word-lt-NEGATIVE.false)))
-    ∙ ap (λ (bs : List ℕ). goes (map byte bs) a.at a.text.now)
-    (signed a.word c.if-word-lt-NEGATIVE.false))
+    ∙ (one_byte minus (map byte (digits (below a.word))) a.at a.text.now (omega (arith, c.requires, ap length e))
+    ∙ ap (λ (bs : List ℕ). goes (map byte bs) a.at a.text.now) e)
