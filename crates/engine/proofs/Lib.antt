@@ -8,5 +8,4 @@ pub mod Slices
 pub mod Middle
 pub mod End
 pub mod Contract
-pub mod Among
 pub mod Left

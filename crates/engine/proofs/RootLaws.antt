@@ -10,9 +10,8 @@ use Rattle.model.specs.Headers.{Layout}
 use Rattle.runs.specs.Runs.{cleared}
 use Rattle.engine_moving.specs.declared.Tally.{Tally}
 use Rattle.engine_moving.specs.Moving.{Left, none_met, counted, MayCount, renamed, MayRename}
-use Rattle.engine_scanning.specs.Scanning.{Sweep, swept, ended, between, run, SafeRun}
+use Rattle.engine_scanning.specs.Scanning.{Sweep, swept, ended, between, run}
 use Rattle.engine.specs.Evacuation.{Emptied, emptied, root_first, rooted, SafeRoots, scanned, evacuated}
-use Rattle.engine.specs.Evacuation.{SafeScan, SafeEvacuation}
 use Rattle.engine_moving.proofs.MovingLaws.{renamed-length}
 
 -- what the roots before an index, done, and the outcome of the others make together
@@ -79,9 +78,6 @@ module _ (Y : Layout) where
 
   module _ (h rs : List ℕ) (old used new : ℕ) (h₁ rs₁ : List ℕ) (f₁ : ℕ) (t₁ : Tally)
       (e : emptied h₁ rs₁ f₁ t₁ ≡ rooted Y h rs new none_met) where
-    pub scan-safe : SafeEvacuation Y h rs old used new → SafeRun Y (length h₁ - new) h₁ (between new f₁ t₁)
-    scan-safe p = subst (SafeScan Y new) (sym e) p.scan
-
     pub evacuated-is : (h₂ : List ℕ) (f₂ : ℕ) (t₂ : Tally) (h₃ : List ℕ)
         → swept h₂ f₂ t₂ ≡ ended (run Y (length h₁ - new) h₁ (between new f₁ t₁))
         → h₃ ≡ cleared h₂ old used
