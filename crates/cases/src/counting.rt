@@ -1,13 +1,14 @@
 // Counting::countings: what a collection counts, where addresses are shared and where words look like some.
 use case_runs::{run, start};
 use model::Call;
+use std::io;
 
 // P5's words. Two roots hold the same address; one is null, one an integer.
-fn five_roots() {
+fn five_roots(rt: &impl Print) -> io::Result<()> {
     let mut heap = start::p5();
     let mut roots = [12, 12, 24, 0, 21];
-    run::name(b"counting, P5 with five roots");
-    run::one(&mut heap, &mut roots, run::in_a(7), Call::Collect);
+    run::name(rt, b"counting, P5 with five roots")?;
+    run::one(rt, &mut heap, &mut roots, run::in_a(7), Call::Collect)
 }
 
 // S = 13: an address twice in one object, code words, raw words like addresses, garbage that holds addresses.
@@ -22,14 +23,14 @@ pub fn shared_roots() -> [u32; 4] {
     [4, 0, 44, 16777216]
 }
 
-fn shared() {
+fn shared(rt: &impl Print) -> io::Result<()> {
     let mut heap = shared_words();
     let mut roots = shared_roots();
-    run::name(b"counting, shared");
-    run::one(&mut heap, &mut roots, run::in_a(14), Call::Collect);
+    run::name(rt, b"counting, shared")?;
+    run::one(rt, &mut heap, &mut roots, run::in_a(14), Call::Collect)
 }
 
-pub fn cases() {
-    five_roots();
-    shared();
+pub fn cases(rt: &impl Print) -> io::Result<()> {
+    five_roots(rt)?;
+    shared(rt)
 }

@@ -2,19 +2,20 @@
 use super::calls;
 use case_runs::run;
 use model::Kind;
+use std::io;
 
-fn allocated(title: &[u8], fields: usize) {
+fn allocated(rt: &impl Print, title: &[u8], fields: usize) -> io::Result<()> {
     let mut heap = [7u32; 17];
     let mut roots = [0u32; 1];
     let fresh = blind::fresh(&mut heap, &roots, run::in_b(12));
-    run::name(title);
+    run::name(rt, title)?;
     let call = calls::allocate(Kind::Traced, fields, 0);
-    run::one(&mut heap, &mut roots, fresh.record, call);
+    run::one(rt, &mut heap, &mut roots, fresh.record, call)
 }
 
-pub fn cases() {
-    allocated(b"Fresh, 7 fields", 7);
-    allocated(b"Fresh, 8 fields", 8);
-    allocated(b"Fresh, largest count", 1073741823);
-    allocated(b"Fresh, count too large", 1073741824);
+pub fn cases(rt: &impl Print) -> io::Result<()> {
+    allocated(rt, b"Fresh, 7 fields", 7)?;
+    allocated(rt, b"Fresh, 8 fields", 8)?;
+    allocated(rt, b"Fresh, largest count", 1073741823)?;
+    allocated(rt, b"Fresh, count too large", 1073741824)
 }

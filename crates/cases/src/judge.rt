@@ -3,16 +3,35 @@
 use super::calls;
 use case_runs::run;
 use model::{Call, Kind, Record};
+use std::io;
 
 // A sound heap: check and collect.
-pub fn sound(heap: &mut [u32], roots: &mut [u32], record: Record) {
-    run::two(heap, roots, record, Call::Check, Call::Collect);
+pub fn sound(
+    rt: &impl Print,
+    heap: &mut [u32],
+    roots: &mut [u32],
+    record: Record,
+) -> io::Result<()> {
+    run::two(rt, heap, roots, record, Call::Check, Call::Collect)
 }
 
 // One that is not: an allocation that calls for a collection, too.
-pub fn unsound(heap: &mut [u32], roots: &mut [u32], record: Record) {
+pub fn unsound(
+    rt: &impl Print,
+    heap: &mut [u32],
+    roots: &mut [u32],
+    record: Record,
+) -> io::Result<()> {
     let never_fits = calls::allocate(Kind::Traced, 5, 0);
-    run::three(heap, roots, record, Call::Check, Call::Collect, never_fits);
+    run::three(
+        rt,
+        heap,
+        roots,
+        record,
+        Call::Check,
+        Call::Collect,
+        never_fits,
+    )
 }
 
 // Two objects of one field: at 1 one that names itself, at 3 garbage that holds the integer 0. Word 5 is

@@ -4,6 +4,8 @@
 // out from documents 01 and 02, stand in the file `stdout`, and the gate compares.
 #![tactic(auto)]
 
+use std::io;
+
 mod calls;
 mod codes;
 mod collections;
@@ -22,33 +24,33 @@ mod single;
 mod values;
 mod words;
 
-fn worked() {
-    integers::cases();
-    objects::cases();
-    collections::cases();
-    fresh::cases();
+fn worked(rt: &impl Print) -> io::Result<()> {
+    integers::cases(rt)?;
+    objects::cases(rt)?;
+    collections::cases(rt)?;
+    fresh::cases(rt)
 }
 
-fn unsound() {
-    shape::cases();
-    words::cases();
-    values::roots();
-    values::fields();
+fn unsound(rt: &impl Print) -> io::Result<()> {
+    shape::cases(rt)?;
+    words::cases(rt)?;
+    values::roots(rt)?;
+    values::fields(rt)
 }
 
-fn each_call() {
-    single::cases();
-    single::twice();
-    order::cases();
-    lowest::cases();
+fn each_call(rt: &impl Print) -> io::Result<()> {
+    single::cases(rt)?;
+    single::twice(rt)?;
+    order::cases(rt)?;
+    lowest::cases(rt)
 }
 
-fn main() {
-    worked();
-    codes::cases();
-    counting::cases();
-    repeating::cases();
-    names::cases();
-    unsound();
-    each_call();
+fn main(rt: HostRuntime) -> io::Result<()> {
+    worked(&rt)?;
+    codes::cases(&rt)?;
+    counting::cases(&rt)?;
+    repeating::cases(&rt)?;
+    names::cases(&rt)?;
+    unsound(&rt)?;
+    each_call(&rt)
 }

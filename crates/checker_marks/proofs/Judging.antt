@@ -29,10 +29,6 @@ Looked e w i = ((turned w < e) × (i ≡ turned w)) ⊎ ((e ≤ turned w) × (i 
 abbrev pub Capped : ℕ → ℕ → Type 0
 Capped w v = ((w < code_floor - 1) × (v ≡ w)) ⊎ ((code_floor - 1 ≤ w) × (v ≡ code_floor - 1))
 
--- what is looked up is no index past the free one
-pub looked_within : (e w i : ℕ) → Looked e w i → i ≤ e
-looked_within e w i l = ⊎_elim (λ t. omega (arith, t.0, t.1)) (λ t. omega (arith, t.1)) l
-
 index_is : (w : ℕ) → index tuple w ≡ w / 4
 unfolding tuple
 index_is w = omega arith

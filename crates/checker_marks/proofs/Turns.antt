@@ -10,13 +10,11 @@ use lib.ListN.{length, set}
 use lib.Pow.{shl_exact}
 use lib.Seq.{get_or-set_other}
 use borrow.Author.Tests.{lt-ltb, le-ltb}
-use Rattle.theory.proofs.Tests.{never}
 use Rattle.model.specs.Headers.{Layout}
 use Rattle.model.specs.Objects.{size}
 use Rattle.model.specs.Words.{at}
-use Rattle.runs.specs.Runs.{cleared}
 use Rattle.checker_marks.specs.declared.Part.{Part}
-use Rattle.checker_marks.specs.Marks.{Fits, mark_at, mark_words, Unmarked, mark, cleared_marks, marking, mark_headers, marked_from}
+use Rattle.checker_marks.specs.Marks.{mark_at, Unmarked, mark, marking, mark_headers, marked_from}
 
 -- ---- the walk that marks
 module _ (Y : Layout) (p : Part) where
@@ -90,10 +88,6 @@ unmarked_mark H p i j d u =
     unmarked_less (mark H p i) p (i / 32) (j / 32) (omega arith)
     (unmarked_set H p (i / 32) (i / 32) (omega arith) u (bit_or (at H (mark_at p i)) (2 ^ (i % 32))))
 
--- ---- stores keep what depends on the heap's length alone
-pub fits-same : (H J : List ℕ) (p : Part) → length J ≡ length H → Fits H p → Fits J p
-fits-same H J p l f = record { start = f.start; used = omega arith; most = omega arith; marks = omega arith }
-
 -- ---- a walk from i on in H that stands at j and has left J: what is left to mark leaves what all from i on leaves
 pub record Walked (Y : Layout) (p : Part) (H : List ℕ) (i : ℕ) (J : List ℕ) (j : ℕ) : Type 0 where
   pub further : i ≤ j
@@ -101,23 +95,9 @@ pub record Walked (Y : Layout) (p : Part) (H : List ℕ) (i : ℕ) (J : List ℕ
   pub behind : Unmarked J p j
   pub left : marked_from Y J p j ≡ marked_from Y H p i
 
-pub walked_not : (Y : Layout) (p : Part) (H : List ℕ) (i : ℕ) → Unmarked H p i → Walked Y p H i H i
-walked_not Y p H i u = record { further = omega arith; same = refl; behind = u; left = refl }
-
 module _ (Y : Layout) (p : Part) (H : List ℕ) (i : ℕ) (J : List ℕ) (j : ℕ) (w : Walked Y p H i J j) where
-  -- a word that is no header is met behind a header
-  pub walked_past : (j ≡ i → Y.is_header (at J j) ≡ true) → Y.is_header (at J j) ≡ false → i < j
-  walked_past t f =
-      let different : j ≡ i → ⊥ = λ e. never (t e) f in
-      omega (arith, w.further)
-
   -- on to k, by a call that walks from j on or by one mark
   pub walked_on : (K : List ℕ) (k : ℕ) → length K ≡ length J
       → (j < k) × (Unmarked K p k × (marked_from Y K p k ≡ marked_from Y J p j)) → Walked Y p H i K k
   walked_on K k l e =
       record { further = omega (arith, w.further); same = l ∙ w.same; behind = e.1.0; left = e.1.1 ∙ w.left }
-
--- ---- marks cleared: null's word, and n words from m on
-pub both_cleared : (H J K : List ℕ) (p : Part) (i m n : ℕ) → J ≡ cleared H p.marks.0 i → K ≡ cleared J m n
-    → i ≡ 1 → m ≡ mark_at p p.first.0 → n ≡ mark_words p → K ≡ cleared_marks H p
-both_cleared H J K p i m n one rest a b c = rest ∙ rw (one, a, b, c)

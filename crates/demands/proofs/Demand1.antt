@@ -13,7 +13,6 @@ use Rattle.model.specs.declared.Index.{Index}
 use Rattle.model.specs.declared.Refusal.TheVariants as Why
 use Rattle.model.specs.declared.Answer.TheVariants as Says
 use Rattle.model.specs.declared.Call.TheVariants as Ask
-use Rattle.model.specs.declared.Place.TheVariants as Place
 use Rattle.model.specs.Answers.{Outcome, refuse}
 use Rattle.model.specs.Calls.{fresh}
 use Rattle.model.specs.Admission.{no_roots}
@@ -27,11 +26,10 @@ use Rattle.model.specs.Refusals as Row
 use Rattle.model.specs.Sessions.{step, machine}
 use Rattle.model.specs.Shape.{bad_length, bad_shape}
 use Rattle.model.specs.Window.{window}
-use Rattle.model.specs.Words.{State, at}
+use Rattle.model.specs.Words.{State}
 use Rattle.theory.proofs.PlainAnswers.{refused-same, done_plainly}
 use Rattle.demands.proofs.Conditions.{roots_decide, object_decides}
 use Rattle.theory.proofs.Deciding.{length_decides, shape_decides}
-use Rattle.demands.proofs.Demand2.{collects}
 use Rattle.demands.proofs.Judged.{Left, unchanged, recollected, Judged, by_row, by_none, judged_refuse, judged_says}
 use Rattle.demands.proofs.Judged.{step-judged}
 use Rattle.theory.proofs.Rows.{Settled, refused, passed, settled_refuses}

@@ -13,12 +13,9 @@ use Rattle.model.specs.declared.Refusal.{Refusal}
 use Rattle.model.specs.declared.Place.{Place}
 use Rattle.model.specs.declared.Index.{Index}
 use Rattle.model.specs.declared.Refusal.TheVariants as Why
-use Rattle.model.specs.declared.Place.TheVariants as Place
-use Rattle.model.specs.declared.Answer.TheVariants as Says
 use Rattle.model.specs.Answers.{refuse}
 use Rattle.model.specs.Calls.{fresh}
-use Rattle.model.specs.Changes.{no_root, root_word, fits}
-use Rattle.model.specs.Graph.{object}
+use Rattle.model.specs.Changes.{no_root, root_word}
 use Rattle.model.specs.Headers.{Layout, Adjacent, OneHeader, tuple}
 use Rattle.model.specs.Laws as Law
 use Rattle.model.specs.Limits.{max_fields, max_integer}
@@ -27,7 +24,7 @@ use Rattle.model.specs.Sessions.{machine}
 use Rattle.model.specs.Shape.{bad_length, bad_shape}
 use Rattle.model.specs.Values.{is_code, in_range, untag}
 use Rattle.model.specs.Window.{window}
-use Rattle.model.specs.Words.{State, at}
+use Rattle.model.specs.Words.{State}
 use Rattle.demands.proofs.CallsPass.{fails_test}
 use Rattle.theory.proofs.Deciding.{shape_decides, names_decides}
 use Rattle.theory.proofs.Headers.{tuple_lawful}

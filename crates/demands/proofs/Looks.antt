@@ -18,7 +18,6 @@ use Rattle.model.specs.declared.Answer.TheVariants as Says
 use Rattle.model.specs.declared.Call.{Call}
 use Rattle.model.specs.declared.Call.TheVariants as Ask
 use Rattle.model.specs.declared.Place.{Place}
-use Rattle.model.specs.declared.Place.TheVariants as Place
 use Rattle.model.specs.Admission.{no_roots, on_roots}
 use Rattle.model.specs.Answers.{Outcome, says, refuse}
 use Rattle.model.specs.Calls as Calls

@@ -11,7 +11,6 @@ use lib.Dec.{ltb}
 use lib.ListN.{length, get_or, take, drop, take-append-drop}
 use lib.Seq.{take-suc, take_all, take-append-le}
 use borrow.Author.Tests.{ltb-true, ltb-false}
-use Rattle.model.specs.Collection.{cells}
 use Rattle.model.specs.Discovery.{visit, visits, packed, found}
 use Rattle.theory.proofs.Discovery.{Reach, found-step, found-still, reach_found}
 use Rattle.theory.proofs.Lists.{map-append}

@@ -7,14 +7,12 @@ use mathlib.Core.Logic.{⊎_elim}
 use mathlib.Core.Bool.{true, not, ◌&&◌}
 use mathlib.Core.List.{List, [], ◌∷◌, ◌++◌}
 use lib.Dec.{eqb}
-use lib.IntN.{pos}
 use lib.ListN.{length, replicate, length-replicate, get_or-replicate}
 use lib.Seq.{sets, length-sets}
 use Rattle.model.specs.declared.Kind.{Kind}
 use Rattle.model.specs.declared.Kind.TheVariants.{Traced}
 use Rattle.model.specs.Changes.{spare, appended, placed}
 use Rattle.model.specs.Discovery.{mem}
-use Rattle.model.specs.Graph.{null}
 use Rattle.model.specs.Headers.{Layout, WritesBoth}
 use Rattle.model.specs.Limits.{max_fields}
 use Rattle.model.specs.Objects.{address, index, kind, field_count, size}

@@ -2,11 +2,12 @@
 use Prim.Native.Nat.{ℕ, ◌-◌, ◌<◌}
 use native.Mathlib.Omega.{arith}
 use mathlib.Core.Path.{◌≡◌, refl, sym, ap, ◌∙◌, subst}
-use mathlib.Core.List.{List, [], ◌∷◌, map, map-map}
+use mathlib.Core.List.{List, ◌∷◌, map, map-map}
 use lib.ListN.{length, get_or, length-map}
 use lib.Seq.{ext_get_or}
+use Rattle.model.specs.declared.Kind.{Kind}
 use Rattle.model.specs.declared.Kind.TheVariants.{Traced, Untraced}
-use Rattle.model.specs.Collection.{field_cell, cells, order, collected}
+use Rattle.model.specs.Collection.{still, field_cell, cells, order, collected}
 use Rattle.model.specs.Demand2 as D
 use Rattle.model.specs.Demand3.{OfWords}
 use Rattle.model.specs.Discovery.{packed, words_before}
@@ -76,6 +77,13 @@ module _ (Y : Layout) (near : Adjacent Y) (s : State) (g : Graph) (m : Represent
       ∙ value-image (get_or vs k (plain null)) (get_or ws k 0) (f k (omega arith))
       ∙ sym (get_d_map (value_image Y g) vs k (plain null) (word 0) (omega arith)))
 
+  -- the words of an object of one kind, where the heap has it of that kind
+  by_kind : (h : ℕ) (k j : Kind) (ws : List ℕ) → k ≡ j
+      → map (image_cell Y (first_word s)) (map (field_cell j) ws) ≡ map (λ w. image_cell Y (first_word s) (field_cell j w)) ws
+      → word h ∷ map (λ w. image_cell Y (first_word s) (field_cell j w)) ws
+      ≡ map (image_cell Y (first_word s)) (still h ∷ map (field_cell k) ws)
+  by_kind h k j ws a c = ap (λ xs. word h ∷ xs) (sym c) ∙ ap (λ t. map (image_cell Y (first_word s)) (still h ∷ map (field_cell t) ws)) (sym a)
+
   -- an object
   object-image : (b : Object) (i : ℕ) → In i (headers Y s) → Holds Y m.kept m.header_of s.heap b i
       → object_image Y g b ≡ map (image_cell Y (first_word s)) (cells Y s.heap i)
@@ -86,7 +94,7 @@ module _ (Y : Layout) (near : Adjacent Y) (s : State) (g : Graph) (m : Represent
       let f : map (image_value Y (first_word s)) (field_words Y s.heap i) ≡ map (value_image Y g) vs =
       values-image vs (field_words Y s.heap i) (l ∙ a.1)
       (λ k q. rw (field_at Y s.heap i k (let z = a.1 in omega arith)) (a.2 k q)) in
-      rw (e, ← f, a.0, map-map (image_cell Y (first_word s)) (field_cell Traced) (field_words Y s.heap i)) refl
+      rw (e, ← f) (by_kind (at s.heap i) (kind Y s.heap i) Traced (field_words Y s.heap i) a.0 (map-map (image_cell Y (first_word s)) (field_cell Traced) (field_words Y s.heap i)))
   object-image (untraced ws) i n a =
       let l = fields-length Y s.heap i (within Y s (parts m) i n) in
       let e : Y.header Untraced (length ws) ≡ at s.heap i =
@@ -94,7 +102,7 @@ module _ (Y : Layout) (near : Adjacent Y) (s : State) (g : Graph) (m : Represent
       let f : field_words Y s.heap i ≡ ws =
       ext_get_or 0 (field_words Y s.heap i) ws (l ∙ a.1)
       (λ k q. field_at Y s.heap i k (omega arith) ∙ a.2 k (let z = a.1 in omega arith)) in
-      rw (e, ← f, a.0, map-map (image_cell Y (first_word s)) (field_cell Untraced) (field_words Y s.heap i)) refl
+      rw (e, ← f) (by_kind (at s.heap i) (kind Y s.heap i) Untraced (field_words Y s.heap i) a.0 (map-map (image_cell Y (first_word s)) (field_cell Untraced) (field_words Y s.heap i)))
 
   kept-met : (x : ℕ) → In x (met Y g) → In x m.kept
   kept-met x i = (order_along Y near s g m (half_words s.heap)).1 x (rw (orders_same Y near s g m) i)

@@ -4,10 +4,8 @@ use native.Mathlib.Omega.{arith}
 use mathlib.Core.Path.{◌≡◌, refl, sym, ap, ◌∙◌, subst}
 use mathlib.Core.Bool.{false}
 use mathlib.Core.List.{[]}
-use lib.IntN.{pos}
 use lib.ListN.{length, replicate, length-replicate}
 use borrow.Author.Tests.{ne_eqb, le-ltb}
-use Rattle.model.specs.declared.Half.TheVariants.{A}
 use Rattle.model.specs.declared.Answer.TheVariants as Says
 use Rattle.model.specs.Answers.{says, refuse}
 use Rattle.model.specs.Calls.{fresh, fresh_record}
@@ -18,7 +16,7 @@ use Rattle.model.specs.Limits.{max_words}
 use Rattle.model.specs.Sessions.{machine}
 use Rattle.model.specs.Shape.{bad_length}
 use Rattle.model.specs.Soundness.{headers}
-use Rattle.model.specs.Words.{State, state_of, with_heap, with_record, at, half_words}
+use Rattle.model.specs.Words.{State, state_of, with_heap, with_record, half_words}
 use Rattle.theory.proofs.Deciding.{tests_sound}
 use Rattle.theory.proofs.Lists.{get_d_same}
 use Rattle.theory.proofs.Members.{in-nil}

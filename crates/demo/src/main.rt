@@ -6,6 +6,7 @@ use blind::{fresh, set_integer};
 use collector::collect;
 use model::{Answer, Half, Index, Kind, Record};
 use objects::store;
+use std::io;
 
 // A traced object of `fields` fields in root `to`, with the integer `value` in one of them, by way of root
 // `by`.
@@ -52,42 +53,44 @@ fn live_of(answer: Answer) -> u32 {
 }
 
 // A number and a word, a line.
-fn line(number: usize, word: u32) {
-    show::index(Index(number));
-    show::text(b" ");
-    show::word(word);
-    show::text(b"\n");
+fn line(rt: &impl Print, number: usize, word: u32) -> io::Result<()> {
+    show::index(rt, Index(number))?;
+    show::text(rt, b" ")?;
+    show::word(rt, word)?;
+    show::text(rt, b"\n")
 }
 
 // Each word from the half's first up to the free index, as far as the heap goes.
-fn words(heap: &[u32], from: usize, end: usize) {
+fn words(rt: &impl Print, heap: &[u32], from: usize, end: usize) -> io::Result<()> {
     let mut i = from;
     while i < end {
         if heap.len() <= i {
-            return;
+            return Ok(());
         }
-        line(i, heap[i]);
+        line(rt, i, heap[i])?;
         i += 1;
     }
+    Ok(())
 }
 
-fn table(roots: &[u32]) {
+fn table(rt: &impl Print, roots: &[u32]) -> io::Result<()> {
     let mut i: usize = 0;
     while i < roots.len() {
-        show::text(b"root ");
-        line(i, roots[i]);
+        show::text(rt, b"root ")?;
+        line(rt, i, roots[i])?;
         i += 1;
     }
+    Ok(())
 }
 
-fn summary(record: Record, live: u32) {
-    show::record(record);
-    show::text(b" live ");
-    show::number(live);
-    show::text(b"\n");
+fn summary(rt: &impl Print, record: Record, live: u32) -> io::Result<()> {
+    show::record(rt, record)?;
+    show::text(rt, b" live ")?;
+    show::number(rt, live)?;
+    show::text(rt, b"\n")
 }
 
-fn main() {
+fn main(rt: HostRuntime) -> io::Result<()> {
     let mut lent = [0u32; 17];
     let mut named = [0u32; 2];
     let heap: &mut [u32] = &mut lent;
@@ -96,7 +99,7 @@ fn main() {
     let done = collect(heap, roots, start);
     let answer = done.answer;
     let after = done.record;
-    summary(after, live_of(answer));
-    words(heap, 9, after.free.0);
-    table(roots);
+    summary(&rt, after, live_of(answer))?;
+    words(&rt, heap, 9, after.free.0)?;
+    table(&rt, roots)
 }

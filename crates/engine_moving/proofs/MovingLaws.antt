@@ -1,4 +1,4 @@
--- One object moved, one word renamed, and what it led to counted: each case of the three, and what they leave.
+-- One object moved and one word renamed: each case of the two, and what they leave.
 use Prim.Native.Nat.{ℕ, ◌+◌, ◌≤◌}
 use native.Mathlib.Omega.{arith}
 use native.Mathlib.Numerals.{add-one}
@@ -14,19 +14,8 @@ use Rattle.model.specs.Objects.{address, index, size}
 use Rattle.theory.proofs.Tests.{by_test}
 use Rattle.runs.specs.Runs.{copied_run}
 use Rattle.runs.proofs.RunLaws.{copied-length, copied_front}
-use Rattle.engine_moving.specs.declared.Met.{Met}
 use Rattle.engine_moving.specs.declared.Met.TheVariants.{Plain, Copied, Found}
-use Rattle.engine_moving.specs.declared.Tally.{Tally}
-use Rattle.engine_moving.specs.Moving.{left, counted, moved, relocated, renamed}
-
--- ---- what is counted, from its numbers
-
-module _ (t : Tally) (m : Met) (a b : ℕ) where
-  pub counted-copied : m ≡ Copied → a ≡ t.copied + 1 → b ≡ t.found → record { copied = a; found = b } ≡ counted t m
-  counted-copied e p q = (λ i. record { copied = p i; found = q i }) ∙ ap (counted t) (sym e)
-
-  pub counted-found : m ≡ Found → a ≡ t.copied → b ≡ t.found + 1 → record { copied = a; found = b } ≡ counted t m
-  counted-found e p q = (λ i. record { copied = p i; found = q i }) ∙ ap (counted t) (sym e)
+use Rattle.engine_moving.specs.Moving.{left, moved, relocated, renamed}
 
 module _ (Y : Layout) where
   module _ (h : List ℕ) (i f : ℕ) where
@@ -50,11 +39,6 @@ module _ (Y : Layout) where
     copied_is n a m h₁ e en eh ea em =
         let z : f + 1 + n ≡ f + (n + 1) = omega arith in
         rw (relocated-copied e, em, ea, eh, run-whole n, z, en)
-
-    pub copied-same : (n w m : ℕ) (h₁ : List ℕ) → h₁ ≡ copied_run (set h f w) (i + 1) (f + 1) n
-        → length (set h₁ i m) ≡ length h
-    copied-same n w m h₁ e =
-        length-set h₁ i m ∙ ap length e ∙ copied-length (set h f w) (i + 1) (f + 1) n ∙ length-set h f w
 
     pub found-is : (a : ℕ) → Y.is_header (at h i) ≡ false → a ≡ Y.unmark (at h i) → left h a f Found ≡ relocated Y h i f
     found-is a e ea = rw (relocated-found e, ea)

@@ -12,7 +12,7 @@ use Rattle.model.specs.Headers.{Layout}
 use Rattle.theory.proofs.Tests.{same?}
 use Rattle.engine_moving.specs.declared.Met.TheVariants.{Plain}
 use Rattle.engine_moving.specs.Moving.{Left, left, renamed}
-use Rattle.engine_scanning.specs.Scanning.{Scan, After, stepped, stored, kept, onward, values_of, raws_of, field_passed, passed}
+use Rattle.engine_scanning.specs.Scanning.{Scan, After, stepped, kept, onward, values_of, raws_of, field_passed, passed}
 use Rattle.engine_moving.proofs.MovingLaws.{renamed-length, renamed-free, renamed_nothing}
 
 module _ (Y : Layout) where
@@ -25,9 +25,6 @@ module _ (Y : Layout) where
     field_plain l e p =
         let n : renamed Y h (at h i) f ≡ left h (at h i) f Plain = renamed_nothing Y h (at h i) f (ap (λ (x : Left). x.met) (sym e) ∙ p) in
         rw (e, n) (ap (λ (x : List ℕ). stepped x f Plain) (sym (set-get_or h i 0)))
-
-    pub field_stored : (l : Left) → l ≡ renamed Y h (at h i) f → stored i l ≡ field_passed Y h i f
-    field_stored l e = ap (stored i) e
 
   -- ---- the word at the scan's place
 

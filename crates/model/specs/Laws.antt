@@ -11,7 +11,6 @@ use Rattle.model.specs.declared.Answered.{Answered}
 use Rattle.model.specs.declared.Call.{Call}
 use Rattle.model.specs.declared.Call.TheVariants as Ask
 use Rattle.model.specs.declared.Place.{Place}
-use Rattle.model.specs.declared.Place.TheVariants as Place
 use Rattle.model.specs.Limits.{max_fields}
 use Rattle.model.specs.Words.{State, state_of, with_text, at}
 use Rattle.model.specs.Values.{is_odd, is_code, in_range, tag, untag}

@@ -2,50 +2,44 @@
 #![tactic(auto)]
 
 use model::{Half, Index, Record, Told};
+use std::io;
 
-pub fn text(text: &[u8]) {
-    io::write_all(1, text);
+pub fn text(rt: &impl Print, text: &[u8]) -> io::Result<()> {
+    rt.write_all(text)
 }
 
-pub fn number(number: u32) {
-    io::print_decimal(1, number as u64);
+pub fn number(rt: &impl Print, number: u32) -> io::Result<()> {
+    print!(rt; "{number}")
 }
 
-pub fn index(index: Index) {
-    io::print_decimal(1, index.0 as u64);
+pub fn index(rt: &impl Print, index: Index) -> io::Result<()> {
+    print!(rt; "{}", index.0)
 }
 
-pub fn length(length: usize) {
-    io::print_decimal(1, length as u64);
+pub fn length(rt: &impl Print, length: usize) -> io::Result<()> {
+    print!(rt; "{length}")
 }
 
-pub fn word(word: u32) {
-    io::print_hex(1, word as u64, 8);
+pub fn word(rt: &impl Print, word: u32) -> io::Result<()> {
+    print!(rt; "{word:08x}")
 }
 
-// A negative integer is -(below + 1), and `below` fits where its sign reversed might not.
-pub fn integer(value: i64) {
-    if value < 0 {
-        let below = (-1 - value) as u64;
-        text(b"-");
-        io::print_decimal(1, below + 1);
-        return;
-    }
-    io::print_decimal(1, value as u64);
+pub fn integer(rt: &impl Print, value: i64) -> io::Result<()> {
+    print!(rt; "{value}")
 }
 
 // "half B free 13"
-pub fn record(record: Record) {
+pub fn record(rt: &impl Print, record: Record) -> io::Result<()> {
     let half = record.half;
     match half {
         Half::A => {
-            text(b"half A free ");
+            text(rt, b"half A free ")?;
         }
         Half::B => {
-            text(b"half B free ");
+            text(rt, b"half B free ")?;
         }
     }
-    index(record.free);
+    index(rt, record.free)
 }
 
 fn wide(value: i32) -> i64 {
@@ -53,39 +47,39 @@ fn wide(value: i32) -> i64 {
 }
 
 // The live objects and the addresses met of a collection, if there are any.
-fn counts(objects: u32, addresses: u32) {
+fn counts(rt: &impl Print, objects: u32, addresses: u32) -> io::Result<()> {
     if objects == 0 {
         if addresses == 0 {
-            return;
+            return Ok(());
         }
     }
-    text(b"/");
-    number(objects);
-    text(b"/");
-    number(addresses);
+    text(rt, b"/")?;
+    number(rt, objects)?;
+    text(rt, b"/")?;
+    number(rt, addresses)
 }
 
 // Refusal, what the root holds, integer or value, and what else a collection counts: "0/1/-1" is the integer
 // -1, "0/0/4/2/3" is P5's collection.
-pub fn told(told: Told) {
-    number(told.refusal);
-    text(b"/");
-    number(told.holds);
-    text(b"/");
+pub fn told(rt: &impl Print, told: Told) -> io::Result<()> {
+    number(rt, told.refusal)?;
+    text(rt, b"/")?;
+    number(rt, told.holds)?;
+    text(rt, b"/")?;
     if told.holds == 1 {
-        integer(wide(told.integer));
-        return;
+        return integer(rt, wide(told.integer));
     }
-    number(told.value);
-    counts(told.objects, told.addresses);
+    number(rt, told.value)?;
+    counts(rt, told.objects, told.addresses)
 }
 
 // Each word behind a space.
-pub fn run(run: &[u32]) {
+pub fn run(rt: &impl Print, run: &[u32]) -> io::Result<()> {
     let mut i: usize = 0;
     while i < run.len() {
-        text(b" ");
-        word(run[i]);
+        text(rt, b" ")?;
+        word(rt, run[i])?;
         i += 1;
     }
+    Ok(())
 }

@@ -4,10 +4,12 @@
 // file `stdout`, and the gate compares.
 #![tactic(auto)]
 
+use std::io;
+
 mod readings;
 mod texts;
 
-fn main() {
-    texts::cases();
-    readings::cases();
+fn main(rt: HostRuntime) -> io::Result<()> {
+    texts::cases(&rt)?;
+    readings::cases(&rt)
 }

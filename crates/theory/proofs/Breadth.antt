@@ -8,15 +8,11 @@ use mathlib.Core.List.{List, [], ◌∷◌}
 use mathlib.Core.Option.{Option, none, some}
 use lib.ListN.{length, get_or, length-append, get_or-append}
 use borrow.Author.Tests.{eq-eqb, ne_eqb}
-use Rattle.model.specs.Changes.{fits}
-use Rattle.model.specs.Collection.{cells}
 use Rattle.model.specs.Discovery.{packed, words_before, found}
-use Rattle.model.specs.Words.{at}
 use Rattle.theory.proofs.Discovery.{Reach, root, cell, found_later, found_distinct, lead-short, found_passed}
 use Rattle.theory.proofs.Discovery.{found_takes, reach_found}
 use Rattle.theory.proofs.Members.{In, in-nil, in_tail, in_self, in_out, Distinct, at_in, distinct_once, position}
 use Rattle.theory.proofs.Packed.{packed-at, words_before-fits, words_before-append, packed_starts}
-use Rattle.theory.proofs.Rows.{passed}
 use Rattle.theory.proofs.Tests.{decide}
 use Rattle.theory.proofs.Visits.{Starts, starts_in, visit-only, visits_has, visits-only}
 

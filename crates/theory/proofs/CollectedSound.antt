@@ -5,14 +5,12 @@ use mathlib.Core.Path.{◌≡◌, sym, ap, ◌∙◌, subst}
 use mathlib.Core.Logic.{⊎_elim}
 use mathlib.Core.Bool.{true, false}
 use mathlib.Core.List.{List, [], ◌∷◌, map}
-use lib.IntN.{pos}
 use lib.ListN.{length, length-append}
 use borrow.Author.Tests.{eqb-true}
 use Rattle.model.specs.declared.Kind.TheVariants.{Traced}
 use Rattle.model.specs.Collection.{field_cell, cells, order, live, rename, settle, collected}
 use Rattle.model.specs.Demand2 as D
 use Rattle.model.specs.Discovery.{packed}
-use Rattle.model.specs.Graph.{null}
 use Rattle.model.specs.Headers.{Layout}
 use Rattle.model.specs.Objects.{index, kind, field_count}
 use Rattle.model.specs.Soundness.{tiles, headers, is_value}

@@ -10,10 +10,7 @@ use mathlib.Core.Option.{Option, none, some}
 use lib.Dec.{ltb}
 use lib.ListN.{length, get_or, get_or-eq_default}
 use borrow.Author.Tests.{ltb-true, ltb-false}
-use Rattle.model.specs.Changes.{fits}
-use Rattle.model.specs.Collection.{cells}
 use Rattle.model.specs.Discovery.{visit, packed, words_before, found}
-use Rattle.model.specs.Words.{at}
 use Rattle.theory.proofs.Members.{In, in-nil, Distinct}
 use Rattle.theory.proofs.Packed.{packed-at, words_before-fits, packed_starts, find}
 use Rattle.theory.proofs.Tests.{by_test}

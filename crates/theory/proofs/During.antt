@@ -15,7 +15,7 @@ use Rattle.model.specs.Headers.{Layout}
 use Rattle.model.specs.Objects.{address, index}
 use Rattle.model.specs.Soundness.{headers}
 use Rattle.model.specs.Values.{is_address}
-use Rattle.model.specs.Words.{State, at, half_words, other, other_first, free}
+use Rattle.model.specs.Words.{State, at, half_words, other, other_first}
 use Rattle.theory.proofs.DiscoveryAlike.{found-settled}
 use Rattle.theory.proofs.Collected.{new_at, new_rest}
 use Rattle.theory.proofs.Discovery.{found_later}

@@ -5,12 +5,10 @@ use mathlib.Core.Path.{◌≡◌, sym, ap, ◌∙◌}
 use mathlib.Core.Logic.{◌⊎◌, inl, inr, ⊎_elim}
 use mathlib.Core.Bool.{true}
 use mathlib.Core.List.{List}
-use lib.IntN.{pos}
 use lib.ListN.{length, set, length-set}
 use lib.Seq.{get_or-set_same, get_or-set_other}
 use Rattle.model.specs.declared.Kind.TheVariants.{Traced}
 use Rattle.model.specs.Changes.{with_root, with_word}
-use Rattle.model.specs.Graph.{null}
 use Rattle.model.specs.Headers.{Layout}
 use Rattle.model.specs.Objects.{kind, field_count}
 use Rattle.model.specs.Soundness.{tiles, headers_from, headers, is_value}

@@ -11,7 +11,6 @@ use borrow.Author.Tests.{eqb-true, eqb-false, eq-eqb, ne_eqb}
 use Rattle.model.specs.Demand2 as D
 use Rattle.model.specs.Discovery.{mem}
 use Rattle.model.specs.Soundness.{all}
-use Rattle.model.specs.Words.{at}
 use Rattle.theory.proofs.Tests.{by_test, never, or_cases, or_left, or_right, or-none, and_both, both_and}
 
 abbrev pub In : ℕ → List ℕ → Type 0

@@ -12,7 +12,6 @@ use lib.Seq.{get_or-append-add}
 use borrow.Author.Tests.{ltb-true, ltb-false, eqb-true, eq-eqb, ne_eqb}
 use Rattle.model.specs.Collection.{cells}
 use Rattle.model.specs.Discovery.{packed, words_before}
-use Rattle.model.specs.Words.{at}
 use Rattle.theory.proofs.Lists.{map-append}
 use Rattle.theory.proofs.Members.{In, Out, in-nil, in_head, in_tail, in_self, in_cons, in_other, out_cons, in_out}
 use Rattle.theory.proofs.Members.{Distinct}

@@ -2,7 +2,6 @@
 use mathlib.Core.Path.{◌≡◌, sym, ◌∙◌, subst}
 use mathlib.Core.Logic.{inl, inr}
 use mathlib.Core.List.{List, [], ◌∷◌}
-use mathlib.Core.Option.{none}
 use Rattle.model.specs.declared.Refusal.{Refusal}
 use Rattle.model.specs.Demand1 as D1
 use Rattle.model.specs.Refusals as Row

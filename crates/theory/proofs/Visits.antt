@@ -7,7 +7,6 @@ use mathlib.Core.List.{List, [], ◌∷◌, ◌++◌, append_assoc, append-nil}
 use mathlib.Core.Option.{Option, none, some}
 use lib.ListN.{get_or}
 use Rattle.model.specs.Discovery.{mem, visit, visits}
-use Rattle.model.specs.Words.{at}
 use Rattle.theory.proofs.Members.{In, in_self, in_append_left, in_append_right, in_snoc, Distinct, distinct_snoc}
 use Rattle.theory.proofs.Tests.{by_test}
 

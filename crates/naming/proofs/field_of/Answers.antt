@@ -1,0 +1,42 @@
+-- `naming::field_of` meets its contract, by one law of its three tests; an object that is named lies in the heap.
+use borrow.Author.Tests.{le-leb, lt-leb}
+use Prim.Native.Nat.{ℕ}
+use native.Mathlib.Omega.{arith}
+use mathlib.Core.Path.{refl, sym, ap, ◌∙◌}
+use lib.Dec.{leb}
+use mathlib.Core.Bool.{not}
+use mathlib.Core.List.{[]}
+use Rattle.model.specs.Words.{state_of}
+use Rattle.naming.proofs.NamedObjects.{header_in, field_tests}
+use Rattle.naming.proofs.field_of.Goals as goal
+
+pub returns-then-not-names : goal.returns-then-not-names
+returns-then-not-names c = λ R.
+    field_tests _ _ _ _ _ (state_of c.args.heap.now R c.args.«record») refl
+    (ap not (sym (c.names.ensures R) ∙ c.if-not-names.true)) refl refl
+
+pub bounds-heap-at : goal.bounds-heap-at
+bounds-heap-at c =
+    rw c.index_of-at.ensures
+    (header_in _ _ [] _ _ c.requires (sym (c.names.ensures []) ∙ c.if-not-names.false))
+
+pub returns-then-not-is_of_kind : goal.returns-then-not-is_of_kind
+returns-then-not-is_of_kind c = λ R.
+    field_tests _ _ _ _ _ (state_of c.args.heap.now R c.args.«record») c.index_of-at.ensures
+    (ap not (sym (c.names.ensures R) ∙ c.if-not-names.false))
+    (ap not (sym c.is_of_kind.ensures ∙ c.if-not-is_of_kind.true)) refl
+
+pub returns-then-count_of-field : goal.returns-then-count_of-field
+returns-then-count_of-field c = λ R.
+    field_tests _ _ _ _ _ (state_of c.args.heap.now R c.args.«record») c.index_of-at.ensures
+    (ap not (sym (c.names.ensures R) ∙ c.if-not-names.false))
+    (ap not (sym c.is_of_kind.ensures ∙ c.if-not-is_of_kind.false))
+    (ap (λ (n : ℕ). leb n c.args.field) (sym c.count_of.ensures.is)
+    ∙ le-leb c.count_of.result c.args.field (omega arith))
+
+pub returns : goal.returns
+returns c = λ R.
+    field_tests _ _ _ _ _ (state_of c.args.heap.now R c.args.«record») c.index_of-at.ensures
+    (ap not (sym (c.names.ensures R) ∙ c.if-not-names.false))
+    (ap not (sym c.is_of_kind.ensures ∙ c.if-not-is_of_kind.false))
+    (ap (λ (n : ℕ). leb n c.args.field) (sym c.count_of.ensures.is) ∙ lt-leb _ _ c.if-count_of-field.false)
