@@ -1,20 +1,11 @@
 -- The bytes from a place on: the first of them, and what follows a part.
-use Prim.Native.Nat.{ℕ, zero, suc, ◌+◌, ◌≤◌, ◌<◌}
+use Prim.Native.Nat.{ℕ, zero, suc, ◌+◌, ◌<◌}
 use native.Mathlib.Omega.{arith}
 use native.Mathlib.Numerals.{add-one}
 use mathlib.Core.Path.{◌≡◌, sym, ap, ◌∙◌}
 use mathlib.Core.List.{List, [], ◌∷◌, ◌++◌}
-use mathlib.Core.Logic.{⊎_elim}
-use lib.Dec.{ltb, leb}
-use borrow.Author.Tests.{lt-ltb, le-ltb, le-leb, lt-leb}
-use Rattle.theory.proofs.Tests.{decide}
 use lib.ListN.{length, get_or, drop}
 use lib.Seq.{drop-drop, drop-append_seam}
-
-pub below_suc : (b n : ℕ) → leb b n ≡ ltb b (suc n)
-below_suc b n =
-    ⊎_elim (λ (h : b < suc n). le-leb b n (omega arith) ∙ sym (lt-ltb b (suc n) h))
-    (λ (h : suc n ≤ b). lt-leb b n (omega arith) ∙ sym (le-ltb b (suc n) h)) (decide b (suc n))
 
 pub record First (T : List ℕ) (p : ℕ) (b : ℕ) (bs : List ℕ) : Type 0 where
   pub inside : p < length T

@@ -12,7 +12,6 @@ use native.Mathlib.Nat.{pos_of_ne-zero}
 use Rattle.model.specs.declared.Kind.TheVariants.{Traced}
 use Rattle.model.specs.Headers.{tuple}
 use Rattle.model.specs.Objects.{address}
-use Rattle.model.specs.Limits.{max_words}
 use Rattle.model.specs.Trees.{Forest, end, leaf_then, node_then, Tree, leaf, node, count, forest_words, tree_words, tree_text, texts, ForestFits, TreeFits}
 use Rattle.model.specs.Texts.{enclosed}
 use Rattle.model.specs.Reading.{is_digit}
@@ -210,11 +209,6 @@ pub record Going (T : List ℕ) (c d : ℕ) (g : Forest) (H₀ : List ℕ) (fiel
   pub bytes : at + length (trail c left) ≡ at₀ + length (trail c g)
   pub kept : length H ≡ length H₀
 
-pub all_left : (T : List ℕ) (c d : ℕ) (g : Forest) (H : List ℕ) (field at free slot : ℕ) → FieldsAt H T c field at free slot d g
-    → Going T c d g H field at free slot H field at free slot
-all_left T c d g H field at free slot a =
-    record { left = g; here = a; lays = refl; fields = refl; words = refl; counts = refl; bytes = refl; kept = refl }
-
 module _ (T : List ℕ) (c d : ℕ) (g : Forest) (H₀ : List ℕ) (field₀ at₀ free₀ slot₀ : ℕ) (H : List ℕ) (field at free slot : ℕ)
     (s : Going T c d g H₀ field₀ at₀ free₀ slot₀ H field at free slot) where
   pub record Turn : Type 0 where
@@ -283,19 +277,6 @@ module _ (H₀ T : List ℕ) (at₀ free₀ slot₀ d : ℕ) (g : Forest) (a : T
 
   pub free-below : free₀ + count g ≤ slot₀
   free-below = omega (arith, a.room.apart, counts-few g)
-
-  -- the numbers that the reader works with, of the count that it finds
-  pub record Numbers : Type 0 where
-    pub slot_inside : slot₀ < length H₀
-    pub inside : free₀ + get_or H₀ slot₀ 0 < length H₀
-    pub most : length H₀ ≤ max_words
-
-  pub numbers : Numbers
-  numbers = record {
-    slot_inside = told-count.inside;
-    inside = omega (arith, told-count.inside, told-count.is, free-below);
-    most = a.room.most;
-  }
 
   pub header_is : (w : ℕ) → w ≡ tuple.header Traced (get_or H₀ slot₀ 0) → w ≡ 2 * count g
   unfolding tuple

@@ -40,12 +40,6 @@ pub record Negative (T : List ℕ) (at : ℕ) (v : ℤ) : Type 0 where
   pub digits_at : DigitsAt T (at + 1) (below + 1)
   pub inside : at + 1 < length T
 
-pub record Natural (T : List ℕ) (at : ℕ) (v : ℤ) : Type 0 where
-  pub number : ℕ
-  pub is : v ≡ pos number
-  pub digits_at : DigitsAt T at number
-  pub few : number ≤ max_integer
-
 within : (T : List ℕ) (p : ℕ) (ds : List ℕ) (b : ℕ) (rest : List ℕ) → drop p T ≡ ds ++ (b ∷ rest) → p < length T
 within T p [] b rest e = (first_of_lem T p b rest e).inside
 within T p (d ∷ ds) b rest e = (first_of_lem T p d (ds ++ (b ∷ rest)) e).inside
@@ -74,16 +68,6 @@ module _ (T : List ℕ) (at : ℕ) where
         inside = within T (at + 1) (digits (n + 1)) i.part.mark i.part.rest f.rest;
       }
 
-  pub natural : (v : ℤ) → IntegerAt T at v → (get_or T at 0 ≡ 126 → ⊥) → Natural T at v
-  natural (pos n) i e = record {
-    number = n;
-    is = refl;
-    digits_at = record { part = i.part; small = omega (arith, leb-true n max_integer i.fits) };
-    few = leb-true n max_integer i.fits;
-  }
-  natural (negsuc n) i e =
-      absurd (e (first_of_lem T at 126 (digits (n + 1) ++ (i.part.mark ∷ i.part.rest)) i.part.spelt).is)
-
   module _ (H : List ℕ) (field number end : ℕ) where
     pub negative-read : (v : ℤ) (g : Negative T at v) → DigitsRead (at + 1) (g.below + 1) number end
         → IntegerRead H field at v end (set H field (4_294_967_295 - 2 * (number - 1)))
@@ -93,7 +77,3 @@ module _ (T : List ℕ) (at : ℕ) where
           stored = ap (λ (w : ℕ). set H field w) (omega (arith, d.is));
           behind = omega (arith, d.behind);
         })
-
-    pub natural_read : (v : ℤ) (g : Natural T at v) → DigitsRead at g.number number end
-        → IntegerRead H field at v end (set H field (2 * number + 1))
-    natural_read v g d = rw g.is (record { stored = ap (λ (w : ℕ). set H field w) (omega (arith, d.is)); behind = d.behind })
