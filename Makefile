@@ -6,11 +6,11 @@ DESTDIR =
 help: ## this list
 	@awk -F ':.*## ' '/^[a-z-]+:.*## / { printf "make %-14s %s\n", $$1, $$2 }' Makefile
 
-# `rt check` proves, builds and runs the program, on Arm too, and keeps what it wrote.
+# `rt run` proves, builds and runs the program; what the prover says goes into the log.
 demo: ## builds a heap of three objects by calls, collects it and prints the two that are left
 	@mkdir -p target
-	@tools/progress.sh check demo >target/demo.log || { cat target/demo.log >&2; exit 1; }
-	@cat target/log/demo.stdout
+	@(cd crates/demo && rt run 2>../../target/demo.log) >target/demo.said || { cat target/demo.log target/demo.said >&2; exit 1; }
+	@cat target/demo.said
 
 test: ## the gate: proves all from nothing, tries each wrong edit, runs each program and the tests from C
 	.ci/run

@@ -44,7 +44,7 @@ find_kit() {
         command -v rt >/dev/null 2>&1 || die "'rt' is not in PATH and RATTLE_HOME is not set: the kit's linker and emulator are needed"
         kit=$(dirname "$(dirname "$(readlink -f "$(command -v rt)")")")
     fi
-    tools=$kit/on/$machine/toolchain
+    tools=$kit/toolchain
     lib=$tools/lib
     [ -x "$tools/bin/ld.lld" ] || die "no linker in $tools/bin: is this the kit for $machine?"
 }

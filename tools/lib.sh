@@ -9,16 +9,16 @@ command -v rt >/dev/null 2>&1 || {
     exit 2
 }
 mkdir -p target
-tools/progress.sh staticlib phachunoi >target/lib.out || {
+(cd crates/phachunoi && rt lib) >target/lib.out 2>&1 || {
     cat target/lib.out
     exit 1
 }
-grep '^logic=proved' target/lib.out || {
+grep '^logic=proved' target/lib.out | tail -n 1 | grep . || {
     echo "tools/lib.sh: the prover does not say that the crate is proved: see target/lib.out" >&2
     exit 1
 }
 mkdir -p dist/lib/pkgconfig dist/include
-cp target/staticlib/libphachunoi.a dist/lib/
+cp crates/phachunoi/out/libphachunoi.a dist/lib/
 cp include/phachunoi.h include/phachunoi_show.h dist/include/
 # The folder is found from the file's own place, so that dist/ can be moved as a whole.
 cat >dist/lib/pkgconfig/phachunoi.pc <<END
