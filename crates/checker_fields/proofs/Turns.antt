@@ -12,7 +12,6 @@ use Rattle.model.specs.Headers.{Layout}
 use Rattle.model.specs.Objects.{is_traced, kind, field_count, size}
 use Rattle.model.specs.Soundness.{all}
 use Rattle.model.specs.Values.{is_odd}
-use Rattle.model.specs.Words.{at}
 use Rattle.runs.specs.Runs.{run}
 use Rattle.theory.proofs.Walks.{tiles_turn, headers_turn, tile_within, all-ended}
 use Rattle.checker_marks.specs.Marks.{is_value_by_marks, fields_are_values_by_marks, is_tiled_from, are_values_from}
@@ -92,14 +91,9 @@ module _ (Y : Layout) (M : List ℕ) (e : ℕ) (H : List ℕ) where
       judged = ap (λ (b : Bool). b && are_values_from Y M e H j) same ∙ walk.judged;
     }
 
-    -- once it has passed something; where another word stands than where it began, it has
+    -- once it has passed something
     pub passes : i < j → Passed Y M e H i j v
     passes l = record { further = l; tiled = walk.tiled; judged = walk.judged }
-
-    pub passes_other : (h : ℕ) → at H i ≡ h → (at H j ≡ h → ⊥) → Passed Y M e H i j v
-    passes_other h here there =
-        let further : j ≡ i → ⊥ = λ same. there (ap (at H) same ∙ here) in
-        passes (omega (arith, walk.come))
 
     pub ends : e ≤ j → is_odd v ≡ are_values_from Y M e H i
     ends l =
