@@ -8,7 +8,6 @@ use lib.ListN.{length, take, length-drop}
 use lib.Seq.{take-length}
 use borrow.Author.Tests.{eq-eqb, ne_eqb}
 use Rattle.model.specs.declared.Answer.TheVariants as Says
-use Rattle.model.specs.declared.Half.{Half}
 use Rattle.model.specs.declared.Record.{Record}
 use Rattle.model.specs.declared.Refusal.TheVariants as Why
 use Rattle.model.specs.Answers.{says, refuse}
@@ -17,19 +16,13 @@ use Rattle.model.specs.Headers.{Layout}
 use Rattle.model.specs.Shape.{bad_shape}
 use Rattle.model.specs.Soundness.{all, all_zero, sound}
 use Rattle.model.specs.Values.{is_odd, is_null}
-use Rattle.model.specs.Words.{state_of, at, half_words, other, first_of}
+use Rattle.model.specs.Words.{state_of, at, half_words}
 use Rattle.runs.specs.Runs.{run}
 use Rattle.checker_marks.specs.declared.Part.{Part}
-use Rattle.checker_marks.specs.Marks.{part, marks_of, cleared_marks, Marking, marking, marked, is_value_by_marks, are_values_from}
+use Rattle.checker_marks.specs.Marks.{marks_of, cleared_marks, Marking, marking, marked, is_value_by_marks, are_values_from}
 use Rattle.checker.specs.ByMarks.{Halves, Markable, Judgeable, part_of, is_zero_around, all_are_values_by_marks, used_part_sound}
 use Rattle.checker.proofs.SoundByMarks.{stop_is, judgeable, halves, markable, sound_dirty, sound_clean}
 use Rattle.checker.proofs.SoundByMarks.{heap_restored}
-
--- ---- the part of a record
-pub part-is : (S : ℕ) (q : Record) (i m : ℕ) (f : Half) → i ≡ first_of S q.half → f ≡ other q.half → m ≡ first_of S f
-    → part i q.free.0 m ≡ part_of S q
-part-is S q i m f a b c =
-    ap (λ (x : ℕ). part x q.free.0 m) a ∙ ap (part (first_of S q.half) q.free.0) (c ∙ ap (first_of S) b)
 
 -- ---- the words around the used part
 module _ (H : List ℕ) (p : Part) (S : ℕ) where

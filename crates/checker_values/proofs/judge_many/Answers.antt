@@ -1,13 +1,14 @@
 -- `checker_values::judge_many` meets its contract: by 64 words more, judged where one is even, and by those left over.
 use native.Mathlib.Omega.{arith}
-use mathlib.Core.Path.{◌≡◌, ap, ◌∙◌}
+use mathlib.Core.Path.{◌≡◌}
 use mathlib.Core.Bool.{◌&&◌}
 use Rattle.model.specs.Headers.{tuple}
 use Rattle.model.specs.Soundness.{all}
 use Rattle.model.specs.Values.{is_odd}
 use Rattle.runs.specs.Runs.{run}
 use Rattle.checker_marks.specs.Marks.{is_value_by_marks}
-use Rattle.checker_values.proofs.Verdicts.{joined, turn, last_turn}
+use Rattle.checker_marks.proofs.Parity.{and-odd}
+use Rattle.checker_values.proofs.Verdicts.{turn, last_turn}
 use Rattle.checker_values.proofs.PlainWords.{kept}
 use Rattle.checker_values.proofs.judge_many.Goals as goal
 use Rattle.checker_values.proofs.judge_many.Goals.{then-even_bits-ne0, else-even_bits-ne0}
@@ -21,8 +22,7 @@ loop-left-preserved c =
     let next = c.if-even_bits-ne0.verdict in
     let judged : is_odd next ≡ (is_odd l.verdict && all (is_value_by_marks tuple a.marks.now a.free) row) =
     elim c.if-even_bits-ne0.branch [
-      | then-even_bits-ne0 w ↦
-          (let four = w.judge_fours-verdict in ap is_odd w.verdict-is ∙ joined l.verdict four.result four.ensures)
+      | then-even_bits-ne0 w ↦ grind (arith, and-odd)
       | else-even_bits-ne0 w ↦
           (kept tuple a.marks.now a.free row l.verdict next bits.result bits.ensures
           (omega (arith, w.if-even_bits-ne0.false)) w.verdict-is)
