@@ -77,10 +77,6 @@ module _ (Y : Layout) (t : List ℕ) (s : State) where
 
 -- a tuple, of n words
 module _ (Y : Layout) (r : ℕ) (s : State) (n : ℕ) (g : Forest) (filled : n ≡ tree_words (node g)) where
-  pub room_now : n ≤ spare s → (s' : State) → s' ≡ planted Y (node g) r s
-      → says Says.Done s' ≡ Calls.with_room Y (tree_words (node g)) (planted Y (node g) r) s
-  room_now f s' e = rw (le-leb (tree_words (node g)) (spare s) (omega arith), e)
-
   pub room_later : spare s < n → retried Y g r s ≡ Calls.with_room Y (tree_words (node g)) (planted Y (node g) r) s
   unfolding retried
   room_later f = rw (lt-leb (tree_words (node g)) (spare s) (omega arith))
