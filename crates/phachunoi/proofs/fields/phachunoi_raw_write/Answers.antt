@@ -1,0 +1,14 @@
+-- `phachunoi::fields::phachunoi_raw_write` meets its contract: its numbers cross to the call and back.
+use mathlib.Core.Path.{refl}
+use Rattle.model.specs.declared.Call.TheVariants as Ask
+use Rattle.model.specs.Sessions.{step}
+use Rattle.crossing.specs.Numbers.{answer_of}
+use Rattle.crossing.proofs.Crosses.{keeps}
+use Rattle.phachunoi.proofs.fields.phachunoi_raw_write.Goals as goal
+
+pub returns : goal.returns
+unfolding step
+returns c =
+    let a = c.args in
+    keeps answer_of a.«record» a.heap.now a.roots.now (Ask.RawWrite a.object a.field a.number) refl
+    c.record_of.ensures c.raw_write-done.ensures c.answer_of.ensures

@@ -1,0 +1,14 @@
+-- `phachunoi::heap::phachunoi_check` meets its contract: its numbers cross to the call and back.
+use mathlib.Core.Path.{refl}
+use Rattle.model.specs.declared.Call.TheVariants as Ask
+use Rattle.model.specs.Sessions.{step}
+use Rattle.crossing.specs.Numbers.{answer_of}
+use Rattle.crossing.proofs.Crosses.{keeps}
+use Rattle.phachunoi.proofs.heap.phachunoi_check.Goals as goal
+
+pub returns : goal.returns
+unfolding step
+returns c =
+    let a = c.args in
+    keeps answer_of a.«record» a.heap.now a.roots.now Ask.Check refl
+    c.record_of.ensures c.check-done.ensures c.answer_of.ensures
