@@ -12,20 +12,12 @@ fn five_roots(rt: &impl Print) -> io::Result<()> {
 }
 
 // S = 13: an address twice in one object, code words, raw words like addresses, garbage that holds addresses.
-pub fn shared_words() -> [u32; 27] {
-    [
+fn shared(rt: &impl Print) -> io::Result<()> {
+    let mut heap = [
         0, 6, 20, 20, 16777220, 0x80000004, 4, 8, 4, 4, 20, 4, 0, 4, 0, 0, 0, 0, 0, 0, 0, 0, 0, 0,
         0, 0, 0,
-    ]
-}
-
-pub fn shared_roots() -> [u32; 4] {
-    [4, 0, 44, 16777216]
-}
-
-fn shared(rt: &impl Print) -> io::Result<()> {
-    let mut heap = shared_words();
-    let mut roots = shared_roots();
+    ];
+    let mut roots = [4, 0, 44, 16777216];
     run::name(rt, b"counting, shared")?;
     run::one(rt, &mut heap, &mut roots, run::in_a(14), Call::Collect)
 }

@@ -1,5 +1,5 @@
-// Every case of the definitions' tables in Worked, CodeWords, Counting, Repeating, Unnamed, Unsound and EachCall,
-// in their order, through the compiled calls; those of TextCases are the program `text_cases`. A line for each:
+// Every case of the definitions' tables in Worked, CodeWords, Counting, Unnamed, Unsound and EachCall, in
+// their order, through the compiled calls; those of TextCases are the program `text_cases`. A line for each:
 // its name, the answers in numbers, and the record, words and roots that are left. The expected lines, worked
 // out from documents 01 and 02, stand in the file `stdout`, and the gate compares.
 #![tactic(auto)]
@@ -17,7 +17,6 @@ mod lowest;
 mod names;
 mod objects;
 mod order;
-mod repeating;
 mod root_calls;
 mod shape;
 mod single;
@@ -49,7 +48,6 @@ fn main(rt: HostRuntime) -> io::Result<()> {
     worked(&rt)?;
     codes::cases(&rt)?;
     counting::cases(&rt)?;
-    repeating::cases(&rt)?;
     names::cases(&rt)?;
     unsound(&rt)?;
     each_call(&rt)
