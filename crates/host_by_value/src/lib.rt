@@ -1,6 +1,6 @@
 // For `host`: the by-value calls that are not lent every slice by `&mut`, each lent all so: its equation says
 // what it leaves as it was. Every thin call of `host` then lends heap and roots the same way to what it
-// calls, and the walks of their code differ in nothing but the number of values that follow the record.
+// calls.
 #![tactic(auto)]
 
 ghost use Rattle.std.specs.Prelude.{◌≡◌};
