@@ -37,7 +37,8 @@ pub extern "C" fn phachunoi_store(
     from: usize,
 ) -> CAnswer
     ensures { kept result heap.new roots.now «record»
-        ≡ called (keeping answer_of) (Calls.store Layouts.tuple object field from) heap.old roots.now «record» }
+        ≡ called (keeping answer_of) (Calls.store Layouts.tuple object field from)
+        heap.old roots.now «record» }
 {
     let done = objects::store(heap, roots, record_of(record), object, field, from);
     let said = done.answer;
@@ -72,7 +73,8 @@ pub extern "C" fn phachunoi_raw_write(
     number: u32,
 ) -> CAnswer
     ensures { kept result heap.new roots.now «record»
-        ≡ called (keeping answer_of) (Calls.raw_write Layouts.tuple object field number) heap.old roots.now «record» }
+        ≡ called (keeping answer_of) (Calls.raw_write Layouts.tuple object field number)
+        heap.old roots.now «record» }
 {
     let done = objects::raw_write(heap, roots, record_of(record), object, field, number);
     let said = done.answer;

@@ -78,7 +78,8 @@ pub extern "C" fn phachunoi_allocate_traced(
     to: usize,
 ) -> CResult
     ensures { given result heap.new roots.new
-        ≡ called Numbers.result_of (Calls.allocate Layouts.tuple Traced fields to) heap.old roots.old «record» }
+        ≡ called Numbers.result_of (Calls.allocate Layouts.tuple Traced fields to)
+        heap.old roots.old «record» }
 {
     let taken = record_of(record);
     if placing::at_once::fits(heap.len(), roots.len(), taken, fields, to) {
@@ -97,7 +98,8 @@ pub extern "C" fn phachunoi_allocate_untraced(
     to: usize,
 ) -> CResult
     ensures { given result heap.new roots.new
-        ≡ called Numbers.result_of (Calls.allocate Layouts.tuple Untraced fields to) heap.old roots.old «record» }
+        ≡ called Numbers.result_of (Calls.allocate Layouts.tuple Untraced fields to)
+        heap.old roots.old «record» }
 {
     let taken = record_of(record);
     if placing::at_once::fits(heap.len(), roots.len(), taken, fields, to) {

@@ -18,7 +18,8 @@ pub extern "C" fn phachunoi_write(
     text: &mut [u8],
 ) -> CWritten
     ensures { kept_text result heap.now roots.now «record» text.new
-        ≡ called_text (keeping written_of) (Calls.write Layouts.tuple root) heap.now roots.now «record» text.old }
+        ≡ called_text (keeping written_of) (Calls.write Layouts.tuple root)
+        heap.now roots.now «record» text.old }
 {
     let done = writer::write(heap, roots, record_of(record), root, text);
     let said = done.answer;
