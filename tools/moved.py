@@ -6,9 +6,10 @@ moved there, changed, gone and the same. One table in Markdown, a row a crate.
 
 definitions   in specs/ every declaration; in src/ each struct, enum, const and type, and each function's contract
 functions     in src/ each function's body
-theorems      in proofs/ the last pub declaration of each Proof.antt; of other files what docs/PROMISES.md of the same
-              commit names in backquotes, as `Module.name`, or as `name` if that has a hyphen or a digit and no other
-              of these files declares it (a single word is too often a field, a call or a crate)
+theorems      in proofs/ the last pub declaration of each Proof.antt, as older commits have them; of other files what
+              docs/PROMISES.md of the same commit names in backquotes, as `Module.name`, or as `name` if that has a
+              hyphen, an underscore or a digit and no other of these files declares it (a single word is too often a
+              field, a call or a crate)
 lemmas        in proofs/ every other declaration
 
 Texts are compared without comments and, but for strings, white space; a declaration's has its `where` and the headers
@@ -77,7 +78,8 @@ def opened(chunk, opens):
 def owners(chunk, here, last):
     """Whose lines these are that begin no declaration: an equation has its name first, or around its operands."""
     words = re.findall(r"[^\s(){}]+", spaced(chunk).split(" = ")[0])
-    infix = [name for name in here if "_" in name and name != "_" and set(filter(None, name.split("_"))) <= set(words)]
+    infix = [name for name in here if "◌" in name or re.search("^_.|._$", name)]
+    infix = [name for name in infix if set(filter(None, re.split("[_◌]", name))) <= set(words)]
     found = last if words[:1] == ["unfolding"] else [here[name] for name in words[:1] + infix if name in here][:1]
     return found or fail(chunk[0], "belongs to no declaration")
 
@@ -118,7 +120,8 @@ def items(lines, path, around=""):
 
 def entries_of_file(file, text, folder, path):
     lines = [re.sub(f"{STRING}|{COMMENT[folder]}", r"\1", line).rstrip() for line in text.split("\n")]
-    lines = [Line(f"{file}:{i}", len(x) - len(x.lstrip()), x.lstrip()) for i, x in enumerate(lines, 1) if x]
+    lines = [Line(f"{file}:{i}", len(x) - len(x.lstrip()), x.lstrip()) for i, x in enumerate(lines, 1)
+             if x and not x.startswith("#![")]
     if folder == "src":
         return items(lines, [part for part in path if part not in ("lib", "main", "mod")])
     return declarations(lines, "definitions" if folder == "specs" else "lemmas", path)
@@ -129,7 +132,7 @@ def theorems(proofs, promises):
     named = set(re.findall("`([^`\n]+)`", promises))
     laws = [entry for file, inside in proofs if file != "Proof" for entry in inside]
     often = Counter(entry.name.split(".")[-1] for entry in laws)
-    plain = {name for name in named if often[name] == 1 and re.search(r"[-\d]", name)}
+    plain = {name for name in named if often[name] == 1 and re.search(r"[-_\d]", name)}
     closing = [entry for file, inside in proofs if file == "Proof" for entry in [x for x in inside if x.pub][-1:]]
     return closing + [x for x in laws if ".".join(x.name.split(".")[-2:]) in named or x.name.split(".")[-1] in plain]
 
