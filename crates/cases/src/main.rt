@@ -11,28 +11,28 @@ mod codes;
 mod collections;
 mod counting;
 mod fresh;
-mod integers;
+mod integer_words;
 mod judge;
 mod lowest;
 mod names;
-mod objects;
 mod order;
 mod root_calls;
 mod shape;
 mod single;
+mod tuple_and_string;
+mod unsound_words;
 mod values;
-mod words;
 
 fn worked(rt: &impl Print) -> io::Result<()> {
-    integers::cases(rt)?;
-    objects::cases(rt)?;
+    integer_words::cases(rt)?;
+    tuple_and_string::cases(rt)?;
     collections::cases(rt)?;
     fresh::cases(rt)
 }
 
 fn unsound(rt: &impl Print) -> io::Result<()> {
     shape::cases(rt)?;
-    words::cases(rt)?;
+    unsound_words::cases(rt)?;
     values::roots(rt)?;
     values::fields(rt)
 }
