@@ -1,6 +1,6 @@
 // The window on the object that a root names: it holds on to the lent heap words, with the object's place
-// among them. What it shows is settled by the two covered functions over the words and the place; the opener
-// and the two readers only pass on.
+// among them. What it shows is settled by the two functions over the words and the place; the opener and the
+// two readers only pass on.
 #![tactic(auto)]
 
 ghost use Rattle.std.specs.Prelude.{◌≡◌};
