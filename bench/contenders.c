@@ -12,12 +12,7 @@ uint32_t archive_collect(struct state *s, struct counts *counts) { return collec
 
 int archive_check(struct state *s) { return check_by_archive(s); }
 
-/* ---- its collector by itself, as Rattle calls it: slices, record and answer in memory ---- */
-
-struct slice {
-  uint32_t *words;
-  size_t count;
-};
+/* ---- its collector by itself, as Rattle calls it: slices and record in their parts, the answer in memory ---- */
 
 struct record {
   uint8_t half;
@@ -29,20 +24,12 @@ struct collected {
   struct record record;
 };
 
-void collect_sound(struct collected *to, const struct slice *heap, const struct slice *roots,
-                   const struct record *record) __asm__("engine::collect_sound");
+void collect_sound(struct collected *to, uint32_t *heap, size_t words, uint32_t *roots, size_t root_count, uint8_t half,
+                   size_t free) __asm__("engine::collect_sound");
 
 struct counts engine_collect(struct state *s) {
-  struct slice heap, roots;
-  struct record record;
   struct collected done;
-  heap.words = s->heap;
-  heap.count = s->words;
-  roots.words = s->roots;
-  roots.count = s->root_count;
-  record.half = (uint8_t)s->half;
-  record.free = s->free;
-  collect_sound(&done, &heap, &roots, &record);
+  collect_sound(&done, s->heap, s->words, s->roots, s->root_count, (uint8_t)s->half, s->free);
   s->half = done.record.half;
   s->free = (uint32_t)done.record.free;
   return done.counts;

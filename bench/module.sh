@@ -6,7 +6,8 @@
 #   own/library.o, own/engine.o   both for this machine's processor; on x86-64 they are the archive's object and engine.o
 #   before.o, own/before.o   the archive before, if BEFORE names the module that was kept when this script ran on an
 #                     earlier revision (its target/bench/module.ll): phachunoi_check is before_check in it, and so on
-# The module is kept by a clang that rt is shown: a folder of links to the kit in which only that command is another.
+# The module is kept by a clang that rt is shown, with the words that it is called with: rt and its library are copied to a
+# folder of links to the kit, since they look for all else beside themselves, and only that command is another there.
 set -eu
 cd "$(dirname "$0")/.."
 made=$PWD/target/bench
@@ -14,34 +15,41 @@ machine=$(uname -m)
 home=${RATTLE_HOME:-$(dirname "$(dirname "$(readlink -f "$(command -v rt)")")")}
 kit=$made/kit
 
-# Links in the folder $2 to all that the folder $1 has, but for the name $3.
+# Links in the folder $2 to all that the folder $1 has, but for the names after them.
 link_all() {
-    mkdir -p "$2"
-    for file in "$1"/*; do
-        [ "$(basename "$file")" = "$3" ] || ln -sfn "$(readlink -f "$file")" "$2/$(basename "$file")"
+    from=$1 to=$2
+    shift 2
+    mkdir -p "$to"
+    for file in "$from"/*; do
+        case " $* " in *" $(basename "$file") "*) continue ;; esac
+        ln -sfn "$file" "$to/$(basename "$file")"
     done
 }
 
 show_kit() {
     rm -rf "$kit"
-    link_all "$home" "$kit" on
-    link_all "$home/on/$machine" "$kit/on/$machine" toolchain
-    link_all "$home/on/$machine/toolchain" "$kit/on/$machine/toolchain" bin
-    link_all "$home/on/$machine/toolchain/bin" "$kit/on/$machine/toolchain/bin" clang
-    cat >"$kit/on/$machine/toolchain/bin/clang" <<END
+    link_all "$home" "$kit" bin toolchain
+    link_all "$home/bin" "$kit/bin" rt rtlib.py
+    cp "$home/bin/rt" "$home/bin/rtlib.py" "$kit/bin/"
+    link_all "$home/toolchain" "$kit/toolchain" bin
+    link_all "$home/toolchain/bin" "$kit/toolchain/bin" clang
+    cat >"$kit/toolchain/bin/clang" <<END
 #!/bin/sh
 for word in "\$@"; do
-    case \$word in *.bc) cp "\$word" "$made/module.bc" ;; esac
-done
-exec "$home/on/$machine/toolchain/bin/clang" "\$@"
+    case \$word in
+    *.bc) cp "\$word" "$made/module.bc" ;;
+    -x | ir | -o | *.o) ;;
+    *) echo "\$word" ;;
+    esac
+done >"$made/words"
+exec "$home/toolchain/bin/clang" "\$@"
 END
-    chmod +x "$kit/on/$machine/toolchain/bin/clang"
+    chmod +x "$kit/toolchain/bin/clang"
 }
 
-# Rattle's own words for the back end.
+# By the words that rattle calls clang with, but for the files.
 compile() {
-    tools/cc.sh kit-clang --target=x86_64-unknown-linux-gnu -march=x86-64 -ffunction-sections -fdata-sections \
-        -mllvm -trap-unreachable -mllvm -no-trap-after-noreturn -fPIC -O3 -c -x ir "$1" -o "$2"
+    xargs -d '\n' tools/cc.sh kit-clang -x ir "$1" -o "$2" <"$made/words"
 }
 
 # The module for another processor: without data layout and without what only x86-64 has; nothing else differs. On
@@ -49,7 +57,7 @@ compile() {
 # pass that address in a register of its own, which is what sret stands for.
 compile_own() {
     sed -e '/^target datalayout/d' -e "s/^target triple.*/target triple = \"$machine-unknown-linux-gnu\"/" \
-        -e 's/"target-cpu"="x86-64"//' -e 's/"probe-stack"="inline-asm"//' \
+        -e 's/"target-cpu"="[^"]*"//' -e 's/"probe-stack"="inline-asm"//' \
         -e '/^define noundef ptr @\(phachunoi\|before\)_/,/^}/{' \
         -e 's/^define noundef ptr \(@[a-z_]*\)(ptr noundef %a0/define void \1(ptr sret([24 x i8]) %a0/' \
         -e 's/ret ptr %a0/ret void/' -e '}' "$1" >"$2.ll"
@@ -58,11 +66,15 @@ compile_own() {
 }
 
 mkdir -p "$made/own"
-rm -f "$made/module.bc"
+rm -f "$made/module.bc" "$made/words"
 show_kit
-RATTLE_HOME=$kit rt staticlib phachunoi >"$made/lib.out" 2>&1 || { cat "$made/lib.out"; exit 1; }
-grep -q '^logic=proved' "$made/lib.out" || { echo "bench: the archive is not proved: see $made/lib.out" >&2; exit 1; }
-cp target/staticlib/libphachunoi.a "$made/"
+rm -f crates/phachunoi/out/libphachunoi.a
+(cd crates/phachunoi && "$kit/bin/rt" lib) >"$made/lib.out" 2>&1 || { cat "$made/lib.out"; exit 1; }
+grep '^logic=' "$made/lib.out" | tail -n 1 | grep -q '^logic=proved' || {
+    echo "bench: the archive is not proved: see $made/lib.out" >&2
+    exit 1
+}
+cp crates/phachunoi/out/libphachunoi.a "$made/"
 
 tools/cc.sh kit-clang --target=x86_64-unknown-linux-gnu -x ir -S -emit-llvm -O0 -Xclang -disable-llvm-passes \
     "$made/module.bc" -o "$made/module.ll"

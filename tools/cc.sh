@@ -4,7 +4,7 @@
 #   tools/cc.sh compile WORDS..     compiles only: WORDS are the compiler's, with '-x c++' for C++
 #   tools/cc.sh run OUT WORDS..     runs a program so made
 # On x86-64 that is the system's cc. On Arm clang makes x86-64 objects, the kit's linker joins them with the kit's C
-# library, and the kit's emulator runs them.
+# library, and an emulator runs them: the kit's, or Debian's where the kit has none.
 #
 # For bench/, so that the same instructions run on every machine: the kit's clang, which compiles Rattle too, its linker
 # and its C library.
@@ -41,7 +41,7 @@ need() {
 find_kit() {
     kit=${RATTLE_HOME:-}
     if [ -z "$kit" ]; then
-        command -v rt >/dev/null 2>&1 || die "'rt' is not in PATH and RATTLE_HOME is not set: the kit's linker and emulator are needed"
+        command -v rt >/dev/null 2>&1 || die "'rt' is not in PATH and RATTLE_HOME is not set: the kit's linker is needed"
         kit=$(dirname "$(dirname "$(readlink -f "$(command -v rt)")")")
     fi
     tools=$kit/toolchain
@@ -155,8 +155,9 @@ count_by_plugin() {
 
 run_emulated() {
     find_kit
-    [ -x "$tools/bin/qemu-x86_64" ] || die "no emulator in $tools/bin: is this the kit for $machine?"
-    exec "$tools/bin/qemu-x86_64" -E LD_LIBRARY_PATH="$lib" "$@"
+    emulator=$tools/bin/qemu-x86_64
+    [ -x "$emulator" ] || { need qemu-x86_64 qemu-user && emulator=qemu-x86_64; }
+    exec "$emulator" -E LD_LIBRARY_PATH="$lib" "$@"
 }
 
 machine=$(uname -m)

@@ -3,6 +3,11 @@ use Prim.Native.Nat.{ℕ, ◌+◌, ◌≤◌, ◌<◌}
 use native.Mathlib.Omega.{arith}
 use mathlib.Core.Path.{◌≡◌, ap, ◌∙◌}
 use mathlib.Core.Bool.{true, false}
+use mathlib.Core.List.{[], ◌∷◌}
+use Rattle.std.specs.Prelude.{Result, Err, ⊤}
+use Rattle.model.specs.declared.Refusal.{Refusal}
+use Rattle.words.specs.Admits.{admits}
+use Rattle.words.proofs.Admitted.{not_admitted}
 use lib.ListN.{length}
 use borrow.Author.Tests.{lt-ltb, le-ltb, le-leb, lt-leb}
 use Rattle.model.specs.declared.Kind.{Kind}
@@ -14,24 +19,21 @@ use Rattle.model.specs.Headers.{Layout}
 use Rattle.model.specs.Shape.{bad_shape}
 use Rattle.model.specs.Soundness.{sound}
 use Rattle.model.specs.Collection.{collected}
-use Rattle.model.specs.Answers.{says, refuse}
+use Rattle.model.specs.Answers.{says, refused, refuse}
 use Rattle.model.specs.Changes.{spare, placed}
 use Rattle.model.specs.Calls as Calls
 use Rattle.placing.specs.Placing.{spare_of}
 use Rattle.allocator.specs.Retrying.{retried}
 
 module _ (Y : Layout) (k : Kind) (n r : ℕ) (s : State) where
-  pub allocate-shape : bad_shape s ≡ true → Calls.allocate Y k n r s ≡ says (Says.Refused Why.Shape) s
-  unfolding Calls.allocate refuse
-  allocate-shape b = rw b
+  -- whatever `admit` says against it
+  pub allocate_refused : {x : Result ⊤ Refusal} {k' : Refusal} → x ≡ admits (r ∷ []) s → x ≡ Err k' → refused k' s ≡ Calls.allocate Y k n r s
+  unfolding Calls.allocate
+  allocate_refused e h = not_admitted (r ∷ []) s e _ h
 
   module _ (b : bad_shape s ≡ false) where
-    pub allocate-root : length s.roots ≤ r → Calls.allocate Y k n r s ≡ says (Says.Refused Why.Root) s
-    unfolding Calls.allocate refuse
-    allocate-root l = rw (b, le-leb (length s.roots) r l)
-
     module _ (l : r < length s.roots) where
-      pub allocate-count : max_fields < n → Calls.allocate Y k n r s ≡ says (Says.Refused Why.Count) s
+      pub allocate-count : max_fields < n → Calls.allocate Y k n r s ≡ refused Why.Count s
       unfolding Calls.allocate refuse
       allocate-count c = rw (b, lt-leb (length s.roots) r l, lt-ltb max_fields n c)
 
@@ -41,7 +43,7 @@ module _ (Y : Layout) (k : Kind) (n r : ℕ) (s : State) where
         allocate_retry f =
             rw (b, lt-leb (length s.roots) r l, le-ltb max_fields n c, lt-leb (n + 1) (spare s) (omega arith))
 
-  pub retried_damaged : sound Y s ≡ false → retried Y k n r s ≡ says (Says.Refused Why.Damaged) s
+  pub retried_damaged : sound Y s ≡ false → retried Y k n r s ≡ refused Why.Damaged s
   unfolding retried refuse
   retried_damaged e = rw e
 
@@ -51,7 +53,7 @@ module _ (Y : Layout) (k : Kind) (n r : ℕ) (s : State) where
     spare-is : m ≡ spare (collected Y s)
     spare-is = p ∙ ap (λ (x : State). spare x) l
 
-    pub retried-room : m ≤ n → says (Says.Refused Why.Room) s' ≡ retried Y k n r s
+    pub retried-room : m ≤ n → refused Why.Room s' ≡ retried Y k n r s
     unfolding retried refuse
     retried-room f = rw (e, l, lt-leb (n + 1) (spare (collected Y s)) (omega (arith, spare-is)))
 

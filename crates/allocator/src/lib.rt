@@ -4,13 +4,17 @@
 ghost use Rattle.std.specs.Prelude.{◌≡◌, ◌≤◌, ◌<◌, length};
 ghost use Rattle.model.specs.Limits.{max_fields};
 ghost use Rattle.model.specs.Headers as Layouts;
-ghost use Rattle.model.specs.Agreements.{lent, outcome};
+ghost use Rattle.model.specs.Words.{state_of};
+ghost use Rattle.model.specs.Agreements.{outcome};
 ghost use Rattle.model.specs.Calls as Calls;
 ghost use Rattle.allocator.specs.Retrying.{retried};
 
-use model::{Answer, Answered, Kind, Record, Refusal, say};
+use model::{Answer, Answered, Kind, Record, Refusal};
+use words::admission::admit;
+use words::shape::MAX_FIELDS;
 
-// After a collection: done, DAMAGED with nothing changed, or ROOM with the heap collected.
+// After a collection: done, DAMAGED with nothing changed, or ROOM with the heap collected. It is not shared
+// with `reader`: must-fail/root_dead_in_its_own_allocation leaves out roots by this call's own number.
 fn retry(
     heap: &mut [u32],
     roots: &mut [u32],
@@ -21,19 +25,18 @@ fn retry(
 ) -> Answered
     requires { (fields ≤ max_fields) × (to < length roots.old) }
     ensures { outcome result heap.new roots.new
-        ≡ retried Layouts.tuple kind fields to (lent heap.old roots.old «record») }
+        ≡ retried Layouts.tuple kind fields to (state_of heap.old roots.old «record») }
 {
     if checker::is_sound(heap, roots, record) {
         let all = roots.len();
-        let done = engine::collect_among(heap, roots, all, record);
-        let after = done.record;
+        let after = engine::collect_among(heap, roots, all, record).record;
         if fields < placing::spare_of(heap.len(), after) {
             let placed = placing::place(heap, roots, after, kind, fields, to);
-            return say(Answer::Done, placed);
+            return Answered::say(Answer::Done, placed);
         }
-        return say(Answer::Refused(Refusal::Room), after);
+        return Answered::refuse(Refusal::Room, after);
     }
-    say(Answer::Refused(Refusal::Damaged), record)
+    Answered::refuse(Refusal::Damaged, record)
 }
 
 // Root `to` gets a new object, its fields null or raw zeros: done, or SHAPE, ROOT, COUNT, DAMAGED or ROOM. If
@@ -48,20 +51,17 @@ pub fn allocate(
     to: usize,
 ) -> Answered
     ensures { outcome result heap.new roots.new
-        ≡ Calls.allocate Layouts.tuple kind fields to (lent heap.old roots.old «record») }
+        ≡ Calls.allocate Layouts.tuple kind fields to (state_of heap.old roots.old «record») }
 {
-    if words::shape::bad_shape(heap.len(), roots.len(), record) {
-        return say(Answer::Refused(Refusal::Shape), record);
+    if let Err(refusal) = admit(heap, roots, record, to) {
+        return Answered::refuse(refusal, record);
     }
-    if roots.len() <= to {
-        return say(Answer::Refused(Refusal::Root), record);
-    }
-    if words::shape::MAX_FIELDS < fields {
-        return say(Answer::Refused(Refusal::Count), record);
+    if MAX_FIELDS < fields {
+        return Answered::refuse(Refusal::Count, record);
     }
     if fields < placing::spare_of(heap.len(), record) {
         let placed = placing::place(heap, roots, record, kind, fields, to);
-        return say(Answer::Done, placed);
+        return Answered::say(Answer::Done, placed);
     }
     retry(heap, roots, record, kind, fields, to)
 }

@@ -1,11 +1,12 @@
 // Set a root to an integer.
 ghost use Rattle.std.specs.Prelude.{◌≡◌};
-ghost use Rattle.model.specs.Agreements.{lent, outcome};
+ghost use Rattle.model.specs.Words.{state_of};
+ghost use Rattle.model.specs.Agreements.{kept};
 ghost use Rattle.model.specs.Calls as Calls;
 
-use integers::{Tagged, tag};
-use model::{Answer, Answered, Record, Refusal, say};
-use words::shape::bad_shape;
+use integers::tag;
+use model::{Answer, Record, Refusal};
+use words::admission::admit;
 
 // Root `to` gets an integer's word: done, or SHAPE, ROOT or RANGE. Leaves the heap and the record, and looks
 // at no heap word.
@@ -15,22 +16,11 @@ pub fn set_integer(
     record: Record,
     to: usize,
     value: i64,
-) -> Answered
-    ensures { outcome result heap.now roots.new
-        ≡ Calls.set_integer to value (lent heap.now roots.old «record») }
+) -> Result<Answer, Refusal>
+    ensures { kept result heap.now roots.new «record»
+        ≡ Calls.set_integer to value (state_of heap.now roots.old «record») }
 {
-    if bad_shape(heap.len(), roots.len(), record) {
-        return say(Answer::Refused(Refusal::Shape), record);
-    }
-    if roots.len() <= to {
-        return say(Answer::Refused(Refusal::Root), record);
-    }
-    let tagged = tag(value);
-    match tagged {
-        Tagged::Word(word) => {
-            roots[to] = word;
-            say(Answer::Done, record)
-        }
-        Tagged::OutOfRange => say(Answer::Refused(Refusal::Range), record),
-    }
+    admit(heap, roots, record, to)?;
+    roots[to] = tag(value).ok_or(Refusal::Range)?;
+    Ok(Answer::Done)
 }

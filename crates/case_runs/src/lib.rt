@@ -2,5 +2,5 @@
 // heaps that several of them start from.
 #![tactic(auto)]
 
-pub mod run;
 pub mod start;
+pub mod state;

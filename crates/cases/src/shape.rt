@@ -1,55 +1,44 @@
 // Unsound::of_shape: SHAPE in each way that small heaps can show, and the ends of its ranges. All words are
 // 0, and there is one null root.
-use super::{judge, root_calls};
-use case_runs::run;
-use model::{Call, Record};
+use super::judge::sound;
+use super::root_calls;
+use case_runs::state::State;
+use model::{Call, Half};
 use std::io;
 
-fn sound(rt: &impl Print, title: &[u8], heap: &mut [u32], record: Record) -> io::Result<()> {
-    let mut roots = [0u32; 1];
-    run::name(rt, title)?;
-    judge::sound(rt, heap, &mut roots, record)
-}
-
-// Every call.
-fn misshapen(rt: &impl Print, title: &[u8], heap: &mut [u32], record: Record) -> io::Result<()> {
-    let mut roots = [0u32; 1];
-    run::name(rt, title)?;
-    let next = run::ask_two(rt, heap, &mut roots, record, Call::Collect, Call::Check)?;
-    root_calls::all(rt, heap, &mut roots, next, 0)
+fn zeros<const W: usize>(half: Half, free: usize) -> State<W, 1> {
+    State::new(half, free, [0; W], [0])
 }
 
 // S = 5.
-fn sound_in_11(rt: &impl Print, title: &[u8], record: Record) -> io::Result<()> {
-    let mut heap = [0u32; 11];
-    sound(rt, title, &mut heap, record)
+fn in_11(half: Half, free: usize) -> State<11, 1> {
+    zeros(half, free)
 }
 
-fn misshapen_in_11(rt: &impl Print, title: &[u8], record: Record) -> io::Result<()> {
-    let mut heap = [0u32; 11];
-    misshapen(rt, title, &mut heap, record)
+// Every call.
+fn misshapen<const W: usize>(rt: &impl Print, title: &str, state: State<W, 1>) -> io::Result<()> {
+    let mut asked = [Call::Check; 17];
+    asked[0] = Call::Collect;
+    asked[2..].copy_from_slice(&root_calls::all(0));
+    state.run(rt, title, &asked)
 }
 
 fn lengths(rt: &impl Print) -> io::Result<()> {
-    let mut three = [0u32; 3];
-    sound(rt, b"shape, 3 words", &mut three, run::in_a(1))?;
-    let mut ten = [0u32; 10];
-    misshapen(rt, b"shape, 10 words", &mut ten, run::in_a(1))?;
-    let mut twelve = [0u32; 12];
-    misshapen(rt, b"shape, 12 words", &mut twelve, run::in_a(1))?;
-    let mut single = [0u32; 1];
-    misshapen(rt, b"shape, 1 word", &mut single, run::in_a(1))?;
-    misshapen(rt, b"shape, no words", &mut single[..0], run::in_a(1))
+    sound(rt, "shape, 3 words", zeros::<3>(Half::A, 1))?;
+    misshapen(rt, "shape, 10 words", zeros::<10>(Half::A, 1))?;
+    misshapen(rt, "shape, 12 words", zeros::<12>(Half::A, 1))?;
+    misshapen(rt, "shape, 1 word", zeros::<1>(Half::A, 1))?;
+    misshapen(rt, "shape, no words", zeros::<0>(Half::A, 1))
 }
 
 pub fn cases(rt: &impl Print) -> io::Result<()> {
-    sound_in_11(rt, b"shape, nothing used", run::in_a(1))?;
-    sound_in_11(rt, b"shape, all used", run::in_a(6))?;
-    sound_in_11(rt, b"shape, nothing used in half B", run::in_b(6))?;
-    sound_in_11(rt, b"shape, all used in half B", run::in_b(11))?;
+    sound(rt, "shape, nothing used", in_11(Half::A, 1))?;
+    sound(rt, "shape, all used", in_11(Half::A, 6))?;
+    sound(rt, "shape, nothing used in half B", in_11(Half::B, 6))?;
+    sound(rt, "shape, all used in half B", in_11(Half::B, 11))?;
     lengths(rt)?;
-    misshapen_in_11(rt, b"shape, free index before half A", run::in_a(0))?;
-    misshapen_in_11(rt, b"shape, free index before half B", run::in_b(5))?;
-    misshapen_in_11(rt, b"shape, free index past half A", run::in_a(7))?;
-    misshapen_in_11(rt, b"shape, free index past half B", run::in_b(12))
+    misshapen(rt, "shape, free index before half A", in_11(Half::A, 0))?;
+    misshapen(rt, "shape, free index before half B", in_11(Half::B, 5))?;
+    misshapen(rt, "shape, free index past half A", in_11(Half::A, 7))?;
+    misshapen(rt, "shape, free index past half B", in_11(Half::B, 12))
 }

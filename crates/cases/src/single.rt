@@ -1,134 +1,72 @@
 // EachCall::single and EachCall::twice: each call beside the paper's cases, and a root named twice. S = 8.
 use super::calls;
-use case_runs::{run, start};
-use model::{Call, Kind};
+use case_runs::start::{junk, p5};
+use case_runs::state::State;
+use model::{Call, Half, Kind};
 use std::io;
 
 // In a heap that is not sound and has room.
 fn allocate(rt: &impl Print) -> io::Result<()> {
-    let mut heap = [7u32; 17];
-    let mut roots = [14u32; 1];
-    run::name(rt, b"allocate, with room")?;
     let call = calls::allocate(Kind::Untraced, 2, 0);
-    run::one(rt, &mut heap, &mut roots, run::in_a(1), call)
+    junk(1, [14]).run(rt, "allocate, with room", &[call])
 }
 
 // After a collection from half B, which leaves the first object alone.
 fn allocate_full(rt: &impl Print) -> io::Result<()> {
-    let mut heap = [0, 0, 0, 0, 0, 0, 0, 0, 0, 0, 4, 40, 21, 0, 0, 0, 0];
-    let mut roots = [36, 0];
-    run::name(rt, b"allocate, to half A exactly full")?;
+    let heap = [0, 0, 0, 0, 0, 0, 0, 0, 0, 0, 4, 40, 21, 0, 0, 0, 0];
     let call = calls::allocate(Kind::Untraced, 6, 1);
-    run::one(rt, &mut heap, &mut roots, run::in_b(13), call)
+    State::new(Half::B, 13, heap, [36, 0]).run(rt, "allocate, to half A exactly full", &[call])
 }
 
-fn same(rt: &impl Print) -> io::Result<()> {
-    let mut heap = [7u32; 17];
-    let mut roots = [14, 14, 12];
-    run::name(rt, b"same, yes and no")?;
-    run::two(
-        rt,
-        &mut heap,
-        &mut roots,
-        run::in_a(1),
-        calls::same(0, 1),
-        calls::same(1, 2),
-    )
+// On words that are no heap.
+fn on_junk(rt: &impl Print) -> io::Result<()> {
+    junk(1, [14, 12]).run(rt, "set integer, -5", &[calls::set_integer(1, -5)])?;
+    junk(1, [14, 12]).run(rt, "set null", &[calls::set_null(1)])?;
+    junk(1, [14, 12]).run(rt, "set code", &[calls::set_code(1, 16777218)])?;
+    junk(1, [14, 12]).run(rt, "copy", &[calls::copy(0, 1)])?;
+    let both = [calls::same(0, 1), calls::same(1, 2)];
+    junk(1, [14, 14, 12]).run(rt, "same, yes and no", &both)?;
+    junk(1, [0, 1]).run(rt, "same, null and 0", &[calls::same(0, 1)])
 }
 
 fn store(rt: &impl Print) -> io::Result<()> {
-    let mut heap = start::p5();
-    let mut roots = [14, 12];
-    run::name(rt, b"store, and load again")?;
-    let stored = run::ask(
-        rt,
-        &mut heap,
-        &mut roots,
-        run::in_a(7),
+    let asked = [
         calls::store(1, 0, 0),
-    )?;
-    run::two(
-        rt,
-        &mut heap,
-        &mut roots,
-        stored,
         calls::set_null(0),
         calls::load(1, 0, 0),
-    )
+    ];
+    p5([14, 12]).run(rt, "store, and load again", &asked)
 }
 
-// Words 1 to 8: an untraced object of two fields, a traced one of three, an untraced one of none.
-fn kinds() -> [u32; 17] {
-    [
+// Words 1 to 8: an untraced object of two fields, a traced one of three, an untraced one of none. The roots
+// hold null, 10, -5, and the objects.
+fn kinds() -> State<17, 6> {
+    let heap = [
         0, 0x80000004, 7, 8, 6, 0, 0, 0, 0x80000000, 0, 0, 0, 0, 0, 0, 0, 0,
-    ]
-}
-
-// Null, 10, -5, and the objects.
-fn kinds_roots() -> [u32; 6] {
-    [0, 21, 0xfffffff7, 16, 4, 32]
+    ];
+    State::new(Half::A, 9, heap, [0, 21, 0xfffffff7, 16, 4, 32])
 }
 
 fn raw(rt: &impl Print) -> io::Result<()> {
-    let mut heap = kinds();
-    let mut roots = kinds_roots();
-    run::name(rt, b"raw write and read, all bits")?;
-    let write = calls::raw_write(4, 1, 0xffffffff);
-    run::two(
-        rt,
-        &mut heap,
-        &mut roots,
-        run::in_a(9),
-        write,
-        calls::raw_read(4, 1),
-    )
-}
-
-fn inspects(rt: &impl Print, heap: &mut [u32], roots: &mut [u32]) -> io::Result<()> {
-    let plain = run::ask_two(
-        rt,
-        heap,
-        roots,
-        run::in_a(9),
-        calls::inspect(0),
-        calls::inspect(1),
-    )?;
-    let next = run::ask_two(rt, heap, roots, plain, calls::inspect(2), calls::inspect(3))?;
-    run::two(rt, heap, roots, next, calls::inspect(4), calls::inspect(5))
-}
-
-fn inspect(rt: &impl Print) -> io::Result<()> {
-    let mut heap = kinds();
-    let mut roots = kinds_roots();
-    run::name(rt, b"inspect, each kind")?;
-    inspects(rt, &mut heap, &mut roots)
+    let asked = [calls::raw_write(4, 1, 0xffffffff), calls::raw_read(4, 1)];
+    kinds().run(rt, "raw write and read, all bits", &asked)
 }
 
 pub fn cases(rt: &impl Print) -> io::Result<()> {
-    start::two_on_p5(rt, b"check, twice", 24, 12, Call::Check, Call::Check)?;
+    p5([24, 12]).run(rt, "check, twice", &[Call::Check, Call::Check])?;
     allocate(rt)?;
     allocate_full(rt)?;
-    start::on_junk(rt, b"set integer, -5", 14, 12, calls::set_integer(1, -5))?;
-    start::on_junk(rt, b"set null", 14, 12, calls::set_null(1))?;
-    start::on_junk(rt, b"set code", 14, 12, calls::set_code(1, 16777218))?;
-    start::on_junk(rt, b"copy", 14, 12, calls::copy(0, 1))?;
-    same(rt)?;
-    start::on_junk(rt, b"same, null and 0", 0, 1, calls::same(0, 1))?;
-    start::on_p5(rt, b"load", 24, 12, calls::load(1, 1, 0))?;
+    on_junk(rt)?;
+    p5([24, 12]).run(rt, "load", &[calls::load(1, 1, 0)])?;
     store(rt)?;
     raw(rt)?;
-    inspect(rt)
+    let each_root = [0, 1, 2, 3, 4, 5].map(calls::inspect);
+    kinds().run(rt, "inspect, each kind", &each_root)
 }
 
 pub fn twice(rt: &impl Print) -> io::Result<()> {
-    start::two_on_p5(
-        rt,
-        b"twice, copy and same",
-        24,
-        12,
-        calls::copy(1, 1),
-        calls::same(1, 1),
-    )?;
-    start::on_p5(rt, b"twice, load", 24, 12, calls::load(1, 1, 1))?;
-    start::on_p5(rt, b"twice, store", 24, 12, calls::store(1, 1, 1))
+    let copy_and_same = [calls::copy(1, 1), calls::same(1, 1)];
+    p5([24, 12]).run(rt, "twice, copy and same", &copy_and_same)?;
+    p5([24, 12]).run(rt, "twice, load", &[calls::load(1, 1, 1)])?;
+    p5([24, 12]).run(rt, "twice, store", &[calls::store(1, 1, 1)])
 }

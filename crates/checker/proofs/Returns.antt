@@ -1,5 +1,5 @@
 -- A law for each return of the functions that only call others, over what those answered.
-use Prim.Native.Nat.{ℕ, ◌+◌, ◌-◌, ◌%◌, ◌≤◌}
+use Prim.Native.Nat.{ℕ, ◌+◌, ◌-◌, ◌≤◌}
 use native.Mathlib.Omega.{arith}
 use mathlib.Core.Path.{◌≡◌, sym, ap, ◌∙◌, subst}
 use mathlib.Core.Bool.{Bool, true, false, ◌&&◌}
@@ -10,12 +10,12 @@ use borrow.Author.Tests.{eq-eqb, ne_eqb}
 use Rattle.model.specs.declared.Answer.TheVariants as Says
 use Rattle.model.specs.declared.Record.{Record}
 use Rattle.model.specs.declared.Refusal.TheVariants as Why
-use Rattle.model.specs.Answers.{says, refuse}
+use Rattle.model.specs.Answers.{says, refuse, refused}
 use Rattle.model.specs.Calls.{check}
 use Rattle.model.specs.Headers.{Layout}
 use Rattle.model.specs.Shape.{bad_shape}
 use Rattle.model.specs.Soundness.{all, all_zero, sound}
-use Rattle.model.specs.Values.{is_odd, is_null}
+use Rattle.model.specs.Values.{is_null}
 use Rattle.model.specs.Words.{state_of, at, half_words}
 use Rattle.runs.specs.Runs.{run}
 use Rattle.checker_marks.specs.declared.Part.{Part}
@@ -35,21 +35,22 @@ module _ (H : List ℕ) (p : Part) (S : ℕ) where
   unfolding is_zero_around
   around_idle z b e = let s : p.marks.0 + S - p.marks.0 ≡ S = omega arith in rw (s, eq-eqb (at H 0) 0 z, e)
 
-  -- n words of the half of the marks were tested, with the answer b, and m words from the free index on;
-  -- that these lie in the heap settles for the prover which n and m they are
-  module _ (z : at H 0 ≡ 0)
-      (n : ℕ) (within : p.marks.0 + n ≤ length H) (b : Bool)
-      (e : b ≡ all is_null (run H p.marks.0 n)) (half : n ≡ S) where
+  -- n words from i on, those of the half of the marks, were tested, with the answer b, and m words from j on, the
+  -- free index; that these lie in the heap settles for the prover which they are
+  module _ (z : at H 0 ≡ 0) (i n : ℕ) (within : i + n ≤ length H) (b : Bool) (e : b ≡ all is_null (run H i n))
+      (idle : i ≡ p.marks.0) (half : n ≡ S) where
     idle-is : b ≡ all is_null (run H p.marks.0 S)
-    idle-is = e ∙ ap (λ (k : ℕ). all is_null (run H p.marks.0 k)) half
+    idle-is = e ∙ ap (λ (k : ℕ). all is_null (run H i k)) half ∙ ap (λ (k : ℕ). all is_null (run H k S)) idle
 
     pub around_dirty : b ≡ false → false ≡ is_zero_around H p S
     around_dirty d = sym (around_idle z false (sym d ∙ idle-is))
 
-    pub around_rest : b ≡ true → (m : ℕ) → p.free.0 + m ≤ length H → (r : Bool) → r ≡ all is_null (run H p.free.0 m)
-        → m ≡ p.first.0 + S - p.free.0 → r ≡ is_zero_around H p S
-    around_rest d m behind r g rest =
-        g ∙ ap (λ (k : ℕ). all is_null (run H p.free.0 k)) rest ∙ sym (around_idle z true (sym d ∙ idle-is))
+    pub around_rest : b ≡ true → (j m : ℕ) → j + m ≤ length H → (r : Bool) → r ≡ all is_null (run H j m)
+        → j ≡ p.free.0 → m ≡ p.first.0 + S - p.free.0 → r ≡ is_zero_around H p S
+    around_rest d j m behind r g free rest =
+        g ∙ ap (λ (k : ℕ). all is_null (run H j k)) rest
+        ∙ ap (λ (k : ℕ). all is_null (run H k (p.first.0 + S - p.free.0))) free
+        ∙ sym (around_idle z true (sym d ∙ idle-is))
 
 -- ---- all roots, then all fields
 
@@ -60,18 +61,15 @@ marks-lent H p =
 
 module _ (Y : Layout) (H roots : List ℕ) (p : Part) where
   -- the roots were judged, with the verdict v
-  module _ (v : ℕ) (e : is_odd v ≡ all (is_value_by_marks Y (marks_of H p) p.free.0) (run roots 0 (length roots))) where
-    roots_are : is_odd v ≡ all (is_value_by_marks Y (marks_of H p) p.free.0) roots
-    roots_are = e ∙ ap (all (is_value_by_marks Y (marks_of H p) p.free.0)) (take-length roots)
-
-    pub values-bad : v % 2 ≡ 0 → false ≡ all_are_values_by_marks Y H roots p
+  module _ (v : Bool) (e : v ≡ all (is_value_by_marks Y (marks_of H p) p.free.0) roots) where
+    pub values-bad : v ≡ false → false ≡ all_are_values_by_marks Y H roots p
     unfolding all_are_values_by_marks
-    values-bad d = let no : is_odd v ≡ false = rw d in rw (← roots_are, no)
+    values-bad d = rw (← e, d)
 
-    pub values_good : v % 2 ≡ 1 → (r : Bool) → r ≡ are_values_from Y (marks_of H p) p.free.0 H p.first.0
+    pub values_good : v ≡ true → (r : Bool) → r ≡ are_values_from Y (marks_of H p) p.free.0 H p.first.0
         → r ≡ all_are_values_by_marks Y H roots p
     unfolding all_are_values_by_marks
-    values_good d r g = let yes : is_odd v ≡ true = rw d in rw (← roots_are, yes) g
+    values_good d r g = rw (← e, d) g
 
 -- ---- what marking left
 module _ (Y : Layout) (H : List ℕ) (p : Part) (H' : List ℕ) (stop : ℕ) (is : marking H' stop ≡ marked Y H p) where
@@ -127,7 +125,7 @@ module _ (Y : Layout) (H roots : List ℕ) (q : Record) where
 
   -- ---- the call check
   pub check-refused : bad_shape (state_of H roots q) ≡ true
-      → says (Says.Refused Why.Shape) (state_of H roots q) ≡ check Y (state_of H roots q)
+      → refused Why.Shape (state_of H roots q) ≡ check Y (state_of H roots q)
   unfolding check refuse
   check-refused b = rw b
 

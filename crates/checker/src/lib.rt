@@ -4,7 +4,8 @@
 #![tactic(auto)]
 
 ghost use Rattle.std.specs.Prelude.{◌≡◌, ◌≤◌};
-ghost use Rattle.model.specs.Agreements.{lent, outcome};
+ghost use Rattle.model.specs.Words.{state_of};
+ghost use Rattle.model.specs.Agreements.{kept};
 ghost use Rattle.model.specs.Calls as Calls;
 ghost use Rattle.model.specs.Headers.{tuple};
 ghost use Rattle.model.specs.Limits.{max_half};
@@ -13,10 +14,10 @@ ghost use Rattle.checker_marks.specs.Marks.{marked, cleared_marks};
 ghost use Rattle.checker.specs.ByMarks.{Halves, Markable, Judgeable, part_of, is_zero_around};
 ghost use Rattle.checker.specs.ByMarks.{all_are_values_by_marks, used_part_sound};
 
-use checker_fields::are_all_fields_values;
-use checker_marks::{Part, clear_marks, mark_headers};
+use checker_fields::Objects;
+use checker_marks::{Marks, Part, clear_marks, mark_headers};
 use checker_values::judge_words;
-use model::{Answer, Answered, Record, Refusal, say};
+use model::{Answer, Record, Refusal};
 use words::shape;
 
 // Whether each root and each field is a value. The headers are marked.
@@ -24,13 +25,16 @@ fn all_are_values(heap: &[u32], roots: &[u32], part: Part) -> bool
     requires { Judgeable tuple heap.now part }
     ensures { result ≡ all_are_values_by_marks tuple heap.now roots.now part }
 {
-    let free = part.free.0;
     let from = part.marks.0;
-    let marks = &heap[from..];
-    if judge_words(roots, 0, roots.len(), marks, free) % 2 == 0 {
+    let marks = Marks {
+        bits: &heap[from..],
+        free: part.free.0,
+    };
+    if !judge_words(roots, marks).holds() {
         return false;
     }
-    are_all_fields_values(heap, part.first.0, marks, free)
+    let objects = Objects { words: heap, marks };
+    objects.are_all_fields_values(part.first.0)
 }
 
 // Whether objects tile the part, and each root and each field is a value. Leaves the marks.
@@ -65,10 +69,11 @@ fn is_zero_around(heap: &[u32], part: Part, half_words: usize) -> bool
     if heap[0] != 0 {
         return false;
     }
-    if !runs::all_zero(heap, part.marks.0, half_words) {
+    let idle = part.marks.0;
+    if !runs::all_zero(&heap[idle..idle + half_words]) {
         return false;
     }
-    runs::all_zero(heap, part.free.0, part.first.0 + half_words - part.free.0)
+    runs::all_zero(&heap[part.free.0..part.first.0 + half_words])
 }
 
 // The used part of a record's half, and its marks in the other half.
@@ -76,18 +81,16 @@ fn part_of(half_words: usize, record: Record) -> Part
     requires { half_words ≤ max_half }
     ensures { result ≡ part_of half_words «record» }
 {
-    let half = record.half;
-    let free = record.free;
     Part {
-        first: shape::first_of(half_words, half),
-        free,
-        marks: shape::first_of(half_words, shape::other_half(half)),
+        first: shape::first_of(half_words, record.half),
+        free: record.free,
+        marks: shape::first_of(half_words, shape::other_half(record.half)),
     }
 }
 
 // Whether the heap is sound. No word differs afterwards. For the calls that collect, too.
 pub fn is_sound(heap: &mut [u32], roots: &[u32], record: Record) -> bool
-    ensures { (result ≡ sound tuple (lent heap.old roots.now «record»)) × (heap.new ≡ heap.old) }
+    ensures { (result ≡ sound tuple (state_of heap.old roots.now «record»)) × (heap.new ≡ heap.old) }
 {
     if shape::bad_shape(heap.len(), roots.len(), record) {
         return false;
@@ -101,14 +104,15 @@ pub fn is_sound(heap: &mut [u32], roots: &[u32], record: Record) -> bool
 }
 
 // The call check.
-pub fn check(heap: &mut [u32], roots: &[u32], record: Record) -> Answered
-    ensures { outcome result heap.new roots.now ≡ Calls.check tuple (lent heap.old roots.now «record») }
+pub fn check(heap: &mut [u32], roots: &[u32], record: Record) -> Result<Answer, Refusal>
+    ensures { kept result heap.new roots.now «record»
+        ≡ Calls.check tuple (state_of heap.old roots.now «record») }
 {
     if shape::bad_shape(heap.len(), roots.len(), record) {
-        return say(Answer::Refused(Refusal::Shape), record);
+        return Err(Refusal::Shape);
     }
     if is_sound(heap, roots, record) {
-        return say(Answer::Sound, record);
+        return Ok(Answer::Sound);
     }
-    say(Answer::Unsound, record)
+    Ok(Answer::Unsound)
 }

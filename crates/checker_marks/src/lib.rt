@@ -1,18 +1,24 @@
 // The marks of the soundness check: each header of the used part is marked by a bit in the idle half, and a
 // word is held against the marks. Nothing else knows where a mark stands.
+//
+// Walks over objects are `while` loops: how far the next header is, this one says, so that no range is known
+// before; and where the step is the same from object to object, the place past `end` is the answer.
 #![tactic(auto)]
 
 ghost use Rattle.std.specs.Prelude.{◌≡◌, true, ◌≤◌, ◌<◌};
 ghost use Rattle.model.specs.Headers.{tuple};
 ghost use Rattle.model.specs.Limits.{max_words};
-ghost use Rattle.model.specs.Values.{is_odd};
 ghost use Rattle.model.specs.Words.{at};
-ghost use Rattle.checker_marks.specs.Marks.{Fits, Unmarked, Ready, mark, cleared_marks, stretch_end};
-ghost use Rattle.checker_marks.specs.Marks.{marking, marked_from, marked, is_value_by_marks};
+ghost use Rattle.checker_marks.specs.Marks.{Fits, Unmarked, mark, cleared_marks, stretch_end};
+ghost use Rattle.checker_marks.specs.Marks.{marking, marked_from, marked};
 
+mod marks;
+mod verdict;
+
+pub use marks::Marks;
 use model::Index;
+pub use verdict::Verdict;
 use words::tuple::Tuple;
-use words::values::CODE_FLOOR;
 
 // The used part of the current half, from its first word to the free index, and the first word of the other
 // half: the mark of the word i is bit i % 32 of the word `marks + i / 32`.
@@ -182,26 +188,4 @@ pub fn clear_marks(heap: &mut [u32], part: Part)
     let words = part.free.0 / 32 - from + 1;
     runs::clear(heap, marks, 1);
     runs::clear(heap, marks + from, words);
-}
-
-// The last word below the floor of code words. It is odd, so that all words from here up are values.
-const BELOW_FLOOR: u32 = CODE_FLOOR - 1;
-
-// A verdict on a word, odd for yes: whether it is odd, 0, a code word, or the address of a marked word. No
-// jump is in it. A word that is a value by its size alone is taken for the odd one below the floor. Turned
-// right by two bits, a multiple of 4 is an index and any other even word is past all of them; what is no
-// index below the free one is looked up there, where no mark is. Null has the mark of word 0.
-pub fn judge(marks: &[u32], free: usize, word: u32) -> u32
-    requires { Ready marks.now free }
-    ensures { is_odd result ≡ is_value_by_marks tuple marks.now free word }
-{
-    let capped = if word < BELOW_FLOOR {
-        word
-    } else {
-        BELOW_FLOOR
-    };
-    let turned = capped / 4 + capped % 4 * 1073741824;
-    let last = free as u32;
-    let i = if turned < last { turned } else { last };
-    (marks[(i / 32) as usize] >> (i % 32)) | capped
 }

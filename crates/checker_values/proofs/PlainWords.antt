@@ -1,8 +1,11 @@
 -- Words that are odd or 0 are values by any marks.
 use Prim.Native.Nat.{ℕ, ◌%◌}
-use mathlib.Core.Path.{◌≡◌, refl, sym, ◌∙◌}
+use mathlib.Core.Path.{◌≡◌, refl, sym, ap, ◌∙◌}
 use mathlib.Core.Logic.{⊎_elim}
-use mathlib.Core.Bool.{true, ◌&&◌, and-true}
+use mathlib.Core.Bool.{Bool, true, false, ◌&&◌, ◌||◌, and-true, and_assoc}
+use Rattle.std.proofs.Common.{if◌then◌else◌, bit_or}
+use Rattle.std.specs.List.{fold}
+use Rattle.runs.proofs.RunLaws.{or-zero}
 use mathlib.Core.List.{List, [], ◌∷◌}
 use lib.Dec.{eqb}
 use borrow.Author.Tests.{eqb-true, eq-eqb}
@@ -13,6 +16,22 @@ use Rattle.model.specs.Values.{is_odd, is_null}
 use Rattle.checker_marks.specs.Marks.{is_value_by_marks}
 use Rattle.checker_marks.proofs.Judging.{value-odd}
 use Rattle.checker_values.specs.Plain.{is_plain}
+
+-- the bits of a word that count
+bits-plain : (w : ℕ) → eqb (if is_odd w then 0 else w) 0 ≡ is_plain w
+bits-plain w = elim (is_odd w) as (λ b. eqb (if b then 0 else w) 0 ≡ (b || is_null w)) [ true ↦ refl | false ↦ refl ]
+
+bits-from : (b : ℕ) (ws : List ℕ)
+    → eqb (fold (λ b w. bit_or b (if is_odd w then 0 else w)) b ws) 0 ≡ (eqb b 0 && all is_plain ws)
+bits-from b [] = sym (and-true (eqb b 0))
+bits-from b (w ∷ ws) =
+    bits-from (bit_or b (if is_odd w then 0 else w)) ws
+    ∙ ap (λ (x : Bool). x && all is_plain ws) (or-zero b (if is_odd w then 0 else w))
+    ∙ ap (λ (x : Bool). eqb b 0 && x && all is_plain ws) (bits-plain w)
+    ∙ and_assoc (eqb b 0) (is_plain w) (all is_plain ws)
+
+pub bits-all_plain : (ws : List ℕ) → eqb (fold (λ b w. bit_or b (if is_odd w then 0 else w)) 0 ws) 0 ≡ all is_plain ws
+bits-all_plain ws = bits-from 0 ws
 
 module _ (Y : Layout) (M : List ℕ) (e : ℕ) where
   value-null : (w : ℕ) → w ≡ 0 → is_value_by_marks Y M e w ≡ true
@@ -33,7 +52,7 @@ module _ (Y : Layout) (M : List ℕ) (e : ℕ) where
       let q = is_value_by_marks Y M e in
       both_and (q w) (all q ws) (value-plain w parts.0) (values-plain ws parts.1)
 
-  -- a verdict that is kept where no even word has a bit
-  pub kept : (ws : List ℕ) (v w bits : ℕ) → eqb bits 0 ≡ all is_plain ws → bits ≡ 0 → w ≡ v
-      → is_odd w ≡ (is_odd v && all (is_value_by_marks Y M e) ws)
-  kept ws v w bits plain z same = rw (same, values-plain ws (sym plain ∙ eq-eqb bits 0 z)) (sym (and-true (is_odd v)))
+  -- where no even word has a bit
+  pub values-even : (ws : List ℕ) (bits : ℕ) → eqb bits 0 ≡ all is_plain ws → bits ≡ 0
+      → all (is_value_by_marks Y M e) ws ≡ true
+  values-even ws bits plain z = values-plain ws (sym plain ∙ eq-eqb bits 0 z)

@@ -1,49 +1,59 @@
 -- Verdicts on words in a row: word by word, part by part, and over words that are met twice.
-use Prim.Native.Nat.{ℕ, zero, suc, ◌+◌, ◌-◌, ◌≤◌, ◌<◌}
+use Prim.Native.Nat.{ℕ, ◌+◌, ◌-◌, ◌≤◌, ◌<◌, zero, suc}
 use native.Mathlib.Omega.{arith}
 use mathlib.Core.Path.{◌≡◌, refl, sym, ap, ◌∙◌}
 use mathlib.Core.Bool.{Bool, ◌&&◌, and-true, and_assoc, and_self_left}
-use mathlib.Core.List.{List, ◌∷◌}
-use lib.Bits.{bit_and}
-use lib.ListN.{length, take, drop}
-use lib.Seq.{drop-cons}
+use mathlib.Core.List.{List}
+use lib.ListN.{length, take, drop, length-drop}
+use lib.Seq.{drop-cons, take-add, take-length}
 use Rattle.model.specs.Soundness.{all}
-use Rattle.model.specs.Values.{is_odd}
 use Rattle.model.specs.Words.{at}
-use Rattle.runs.specs.Runs.{run}
-use Rattle.runs.proofs.RunLaws.{all_parts}
-use Rattle.checker_marks.proofs.Parity.{and-odd}
-
-pub joined : (v w : ℕ) {b : Bool} → is_odd w ≡ b → is_odd (bit_and v w) ≡ (is_odd v && b)
-joined v w e = and-odd v w ∙ ap (λ (x : Bool). is_odd v && x) e
-
--- ---- one word after the other
+use Rattle.runs.proofs.RunLaws.{all_append, all_rest}
 
 module _ (q : ℕ → Bool) (l : List ℕ) where
-  pub first_word : {b : Bool} (from : ℕ) → from < length l → b ≡ q (at l from) → b ≡ all q (run l from 1)
-  first_word from fits e =
-      e ∙ sym (ap (λ (x : List ℕ). all q (take 1 x)) (drop-cons l from 0 fits) ∙ and-true (q (at l from)))
+  -- ---- one word after the other
 
-  pub next_word : {b c : Bool} (from n : ℕ) → from + n < length l → b ≡ all q (run l from n) → c ≡ q (at l (from + n))
-      → (b && c) ≡ all q (run l from (n + 1))
-  next_word from n fits e f =
-      let rest : n + 1 - n ≡ 1 = omega arith in
-      rw (e, first_word (from + n) fits f) (sym (rw rest at (all_parts q l from n (n + 1) (omega arith))))
+  next_word : (n : ℕ) → n < length l → all q (take (n + 1) l) ≡ (all q (take n l) && q (at l n))
+  next_word n more =
+      ap (all q) (take-add n 1 l)
+      ∙ all_append q (take n l) (take 1 (drop n l))
+      ∙ ap (λ (t : List ℕ). all q (take n l) && all q (take 1 t)) (drop-cons l n 0 more)
+      ∙ ap (λ (b : Bool). all q (take n l) && b) (and-true (q (at l n)))
 
--- ---- four words, and a number of them
+  pub first_word : 0 < length l → all q (take 1 l) ≡ q (at l 0)
+  first_word more = next_word 0 more
 
-pub four_words : (l : List ℕ) (from : ℕ) → from + 4 ≤ length l
-    → drop from l ≡ at l from ∷ at l (from + 1) ∷ at l (from + 2) ∷ at l (from + 3) ∷ drop (from + 4) l
-four_words l from fits =
-    rw (
-      next from (from + 1) (omega arith) (omega arith),
-      next (from + 1) (from + 2) (omega arith) (omega arith),
-      next (from + 2) (from + 3) (omega arith) (omega arith),
-      next (from + 3) (from + 4) (omega arith) (omega arith),
-    )
-  where
-    next : (i j : ℕ) → i < length l → suc i ≡ j → drop i l ≡ at l i ∷ drop j l
-    next i j more e = rw (← e) (drop-cons l i 0 more)
+  pub two_words : 1 < length l → all q (take 2 l) ≡ (q (at l 0) && q (at l 1))
+  two_words more = next_word 1 more ∙ ap (λ (b : Bool). b && q (at l 1)) (first_word (omega arith))
+
+  pub three_words : 2 < length l → all q (take 3 l) ≡ (q (at l 0) && q (at l 1) && q (at l 2))
+  three_words more = next_word 2 more ∙ ap (λ (b : Bool). b && q (at l 2)) (two_words (omega arith))
+
+  pub four_words : 3 < length l → all q (take 4 l) ≡ (q (at l 0) && q (at l 1) && q (at l 2) && q (at l 3))
+  four_words more = next_word 3 more ∙ ap (λ (b : Bool). b && q (at l 3)) (three_words (omega arith))
+
+  pub whole : (n : ℕ) → length l ≡ n → all q (take n l) ≡ all q l
+  whole n e = ap (λ (k : ℕ). all q (take k l)) (sym e) ∙ ap (all q) (take-length l)
+
+  -- ---- parts of a row
+
+  -- the first i words and the k words from j on are all, some of them twice
+  pub covered : (i j k : ℕ) → j ≤ i → j + k ≡ length l → (all q (take i l) && all q (take k (drop j l))) ≡ all q l
+  covered i j k d e =
+      let start = all q (take j l) in
+      let twice = all q (take (i - j) (drop j l)) in
+      let end = all q (drop (i - j) (drop j l)) in
+      let sum : i ≡ j + (i - j) = omega arith in
+      let rest : k ≡ length (drop j l) = omega (arith, length-drop j l) in
+      rw (
+        ap (λ (n : ℕ). all q (take n l)) sum,
+        take-add j (i - j) l,
+        all_append q (take j l) (take (i - j) (drop j l)),
+        ap (λ (n : ℕ). take n (drop j l)) rest ∙ take-length (drop j l),
+        all_rest q l j,
+        all_rest q (drop j l) (i - j),
+      )
+      (and_assoc start twice (twice && end) ∙ ap (λ (x : Bool). start && x) (and_self_left twice end))
 
 pub up_to_four : {A : Type 0} (n : ℕ) → n ≤ 4 → (n ≡ 0 → A) → (n ≡ 1 → A) → (n ≡ 2 → A) → (n ≡ 3 → A) → (n ≡ 4 → A) → A
 up_to_four zero most f₀ f₁ f₂ f₃ f₄ = f₀ refl
@@ -52,42 +62,3 @@ up_to_four (suc (suc zero)) most f₀ f₁ f₂ f₃ f₄ = f₂ refl
 up_to_four (suc (suc (suc zero))) most f₀ f₁ f₂ f₃ f₄ = f₃ refl
 up_to_four (suc (suc (suc (suc zero)))) most f₀ f₁ f₂ f₃ f₄ = f₄ refl
 up_to_four (suc (suc (suc (suc (suc n))))) most f₀ f₁ f₂ f₃ f₄ = absurd (omega arith)
-
--- ---- parts of a row
-
-module _ (q : ℕ → Bool) (l : List ℕ) where
-  -- with the verdict v on the words before i, the words left say what all n say
-  abbrev pub Passed : ℕ → ℕ → ℕ → ℕ → ℕ → Type 0
-  Passed from n v i left = (i + left ≡ from + n) × ((is_odd v && all q (run l i left)) ≡ all q (run l from n))
-
-  -- m words more, which w says too
-  pub turn : (from n v w i m left : ℕ) → Passed from n v i left → m ≤ left → is_odd w ≡ (is_odd v && all q (run l i m))
-      → Passed from n w (i + m) (left - m)
-  turn from n v w i m left passed most e =
-      let rest = all q (run l (i + m) (left - m)) in (
-        omega arith,
-        rw e (and_assoc (is_odd v) (all q (run l i m)) rest) ∙ rw (all_parts q l i m left most) at passed.1,
-      )
-
-  pub last_turn : (from n v w i left : ℕ) → Passed from n v i left → is_odd w ≡ all q (run l i left)
-      → is_odd (bit_and v w) ≡ all q (run l from n)
-  last_turn from n v w i left passed e = joined v w e ∙ passed.1
-
-  -- the first i words and those from j on are all of n, some of them twice
-  pub covered : (from i j k n : ℕ) → from ≤ j → j ≤ from + i → i ≤ n → j + k ≡ from + n
-      → (all q (run l from i) && all q (run l j k)) ≡ all q (run l from n)
-  covered from i j k n a b c e =
-      let m = j - from in
-      let start = all q (run l from m) in
-      let twice = all q (run l (from + m) (i - m)) in
-      let end = all q (run l (from + m + (i - m)) (k - (i - m))) in
-      let begins : j ≡ from + m = omega arith in
-      let rest : n - m ≡ k = omega arith in
-      rw (
-        ap (λ (x : ℕ). all q (run l x k)) begins,
-        all_parts q l from m n (omega arith),
-        rest,
-        all_parts q l from m i (omega arith),
-        all_parts q l (from + m) (i - m) k (omega arith),
-      )
-      (and_assoc start twice (twice && end) ∙ ap (λ (x : Bool). start && x) (and_self_left twice end))

@@ -8,15 +8,15 @@ use Rattle.model.specs.Headers.{Layout}
 use Rattle.model.specs.Shape.{bad_shape}
 use Rattle.model.specs.Soundness.{sound}
 use Rattle.model.specs.Collection.{counts, collected}
-use Rattle.model.specs.Answers.{says, refuse}
+use Rattle.model.specs.Answers.{says, refused, refuse}
 use Rattle.model.specs.Calls as Calls
 
 module _ (Y : Layout) (s : State) where
-  pub collect-shape : bad_shape s ≡ true → Calls.collect Y s ≡ says (Says.Refused Why.Shape) s
+  pub collect-shape : bad_shape s ≡ true → Calls.collect Y s ≡ refused Why.Shape s
   unfolding Calls.collect refuse
   collect-shape b = rw b
 
-  pub collect_damaged : bad_shape s ≡ false → sound Y s ≡ false → Calls.collect Y s ≡ says (Says.Refused Why.Damaged) s
+  pub collect_damaged : bad_shape s ≡ false → sound Y s ≡ false → Calls.collect Y s ≡ refused Why.Damaged s
   unfolding Calls.collect refuse
   collect_damaged b e = rw (b, e)
 

@@ -7,6 +7,8 @@ use mathlib.Core.List.{List}
 use lib.Dec.{leb, eqb}
 use lib.IntN.{pos}
 use lib.ListN.{length}
+use Rattle.std.specs.Prelude.{Result, Ok, Err}
+use Rattle.model.specs.declared.Refusal.{Refusal}
 use Rattle.model.specs.declared.Refusal.TheVariants as Why
 use Rattle.model.specs.declared.Answer.{Answer}
 use Rattle.model.specs.declared.Call.{Call}
@@ -16,6 +18,7 @@ use Rattle.model.specs.declared.Told.{Told}
 use Rattle.model.specs.Words.{State, at}
 use Rattle.model.specs.Headers.{Layout}
 use Rattle.model.specs.Answers.{told}
+use Rattle.model.specs.Window.{place}
 use Rattle.model.specs.Calls.{fresh}
 use Rattle.model.specs.Sessions.{step}
 use Rattle.theory.proofs.PlainAnswers.{no_zero}
@@ -43,7 +46,7 @@ read_simple = (
 )
 
 -- by a struct of its own, from which the call's answer is heard as from all its numbers
-by_struct : {Z : Type 0} (Y : Layout) (c : Call) (s s' : State) (struct : Told → Z) (hears : Z → Answer)
+by_struct : {Z : Type 0} (Y : Layout) (c : Call) (s s' : State) (struct : Told → Z) (hears : Z → Result Answer Refusal)
     → ((t : Told) → hears (struct t) ≡ heard c t)
     → struct (told (step Y c s).answer) ≡ struct (told (step Y c s').answer) → (step Y c s).answer ≡ (step Y c s').answer
 by_struct Y c s s' struct hears same e =
@@ -96,14 +99,14 @@ collected_told z = record {
   addresses = z.addresses;
 }
 
-window-apart : (p p' : Place) → window_of p ≡ window_of p' → p ≡ p'
-window-apart (Place.Object i n) (Place.Object j m) e =
-    let a : i.0 + 1 ≡ j.0 + 1 = ap (λ w. w.first) e in
-    let b : i.0 ≡ j.0 = omega arith in
-    λ k. Place.Object (record { 0 = b k }) (ap (λ w. w.count) e k)
-window-apart (Place.Object i n) (Place.Refused k) e = absurd (no_zero k (sym (ap (λ w. w.refusal) e)))
-window-apart (Place.Refused k) (Place.Object i n) e = absurd (no_zero k (ap (λ w. w.refusal) e))
-window-apart (Place.Refused j) (Place.Refused k) e = ap Place.Refused (numbers_apart j k (ap (λ w. w.refusal) e))
+window-apart : (p p' : Result Place Refusal) → window_of p ≡ window_of p' → p ≡ p'
+window-apart (Ok p) (Ok q) e =
+    let a : p.header.0 + 1 ≡ q.header.0 + 1 = ap (λ w. w.first) e in
+    let b : p.header.0 ≡ q.header.0 = omega arith in
+    λ k. Ok (place (record { 0 = b k }) (ap (λ w. w.count) e k))
+window-apart (Ok p) (Err k) e = absurd (no_zero k (sym (ap (λ w. w.refusal) e)))
+window-apart (Err k) (Ok p) e = absurd (no_zero k (ap (λ w. w.refusal) e))
+window-apart (Err j) (Err k) e = ap Err (numbers_apart j k (ap (λ w. w.refusal) e))
 
 word_back : (H : List ℕ) (w : CWindow) (f : ℕ) → heard (Ask.RawRead 0 0) (told (word_at H w f)) ≡ word_at H w f
 unfolding word_at

@@ -1,17 +1,14 @@
 -- The law that every exported call cites: a call that is made with the record taken from C's numbers, and
 -- whose answer and record go back as numbers, is the model's call given those numbers.
-use Prim.Native.Nat.{ℕ, ◌<◌}
+use Prim.Native.Nat.{ℕ}
 use native.Mathlib.Omega.{arith}
 use mathlib.Core.Path.{◌≡◌, refl, sym, ap, ◌∙◌, subst}
 use mathlib.Core.Bool.{Bool, true, false}
 use mathlib.Core.List.{List, []}
 use lib.ListN.{length}
 use Rattle.model.specs.declared.Record.{Record}
-use Rattle.model.specs.declared.Kind.TheVariants.{Traced, Untraced}
 use Rattle.model.specs.declared.Refusal.{Refusal}
-use Rattle.model.specs.declared.Refusal.TheVariants as Why
 use Rattle.model.specs.declared.Answer.{Answer}
-use Rattle.model.specs.declared.Answer.TheVariants as Says
 use Rattle.model.specs.declared.Call.{Call}
 use Rattle.model.specs.declared.Call.TheVariants as Ask
 use Rattle.model.specs.declared.Answered.{Answered}
@@ -20,12 +17,13 @@ use Rattle.model.specs.declared.Place.{Place}
 use Rattle.model.specs.Words.{State, state_of, with_text, free}
 use Rattle.model.specs.Headers.{tuple}
 use Rattle.model.specs.Shape.{bad_length}
-use Rattle.model.specs.Answers.{Outcome, says, outcome_of, number, told, refuse}
+use Rattle.std.specs.Prelude.{Result}
+use Rattle.model.specs.Agreements.{kept, outcome, kept_text, outcome_text}
+use Rattle.model.specs.Answers.{Outcome, told, refuse}
 use Rattle.model.specs.Calls.{fresh, inspect}
-use Rattle.model.specs.Laws.{changes_record}
 use Rattle.model.specs.Window.{window}
 use Rattle.model.specs.Sessions.{step}
-use Rattle.theory.proofs.Leaving.{record_stays, inspect-stays}
+use Rattle.theory.proofs.Leaving.{inspect-stays}
 use Rattle.numbers.specs.declared.seen.Seen.{Seen}
 use Rattle.numbers.specs.Places as Places
 use Rattle.crossing.specs.declared.CRecord.{CRecord}
@@ -33,7 +31,7 @@ use Rattle.crossing.specs.declared.CResult.{CResult}
 use Rattle.crossing.specs.declared.CSeen.{CSeen}
 use Rattle.crossing.specs.declared.CWindow.{CWindow}
 use Rattle.crossing.specs.Numbers.{Given, given_of, called_of, begun, result_of, crossed, seen_of, keeping, no_half, window_of, opened}
-use Rattle.crossing.specs.Crossing.{nowhere, taken, back, fresh_back, Narrow, NarrowPlace, NarrowSeen}
+use Rattle.crossing.specs.Crossing.{nowhere, taken, back, fresh_back, Narrow, NarrowPlace}
 use Rattle.crossing.proofs.ShapeFirst.{nowhere-bad, shape-first, window-shape}
 use Rattle.crossing.proofs.Laws.{record_law}
 use Rattle.crossing.proofs.FreeIndexes.{step_narrow, window_narrow}
@@ -43,7 +41,7 @@ abbrev lent_of : List ℕ → List ℕ → List ℕ → Record → State
 lent_of H R t q = with_text t (state_of H R q)
 
 abbrev left_of : Answered → List ℕ → List ℕ → List ℕ → Outcome State
-left_of o H R t = says o.answer (lent_of H R t o.«record»)
+left_of o H R t = outcome_text o H R t
 
 -- the call that was made, of the record that was taken
 made : {H' R' t' : List ℕ} {q : Record} {o : Answered} (H R t : List ℕ) (c : CRecord) (k : Call)
@@ -73,7 +71,7 @@ module _ {T : Type 0} (returns : Told → CRecord → T) (c : CRecord) where
 
   -- of a call that is lent no bytes
   pub crosses : {H' R' : List ℕ} {q : Record} {o : Answered} {r : T} (H R : List ℕ) (k : Call)
-      → q ≡ taken c → outcome_of o H' R' ≡ step tuple k (state_of H R q)
+      → q ≡ taken c → outcome o H' R' ≡ step tuple k (state_of H R q)
       → r ≡ returns (told o.answer) (back c o.«record») → given_of r H' R' [] ≡ called_of returns (step tuple k) H R [] c
   crosses H R k e f g = crosses_text H R [] k e f g
 
@@ -85,23 +83,19 @@ back-taken c = go (no_half c) refl
     go true e = rw e
     go false e = rw e (record_law.back c e)
 
-pub keeps-text : {T : Type 0} {H' R' t' : List ℕ} {q : Record} {o : Answered} {r : T} (returns : Told → T) (c : CRecord)
-    (H R t : List ℕ) (k : Call) → changes_record k ≡ false
-    → q ≡ taken c → left_of o H' R' t' ≡ step tuple k (lent_of H R t q)
-    → r ≡ returns (told o.answer) → given_of (r, c) H' R' t' ≡ called_of (keeping returns) (step tuple k) H R t c
-keeps-text {o = o} returns c H R t k n e f g = crosses_text (keeping returns) c H R t k e f (λ i. (g i, sym comes_back i))
+pub keeps-text : {T : Type 0} {H' R' t' : List ℕ} {q : Record} {a : Result Answer Refusal} {r : T} (returns : Told → T) (c : CRecord)
+    (H R t : List ℕ) (k : Call) → q ≡ taken c → kept_text a H' R' q t' ≡ step tuple k (lent_of H R t q)
+    → r ≡ returns (told a) → given_of (r, c) H' R' t' ≡ called_of (keeping returns) (step tuple k) H R t c
+keeps-text {q = q} {a = a} returns c H R t k e f g =
+    crosses_text (keeping returns) c {o = record { answer = a; «record» = q }} H R t k e f (λ i. (g i, sym comes_back i))
   where
-    left : o.«record» ≡ taken c
-    left = ap (λ (z : Outcome State). z.left.«record») f ∙ record_stays tuple k (lent_of H R t _) n ∙ e
+    comes_back : back c q ≡ c
+    comes_back = ap (back c) e ∙ back-taken c
 
-    comes_back : back c o.«record» ≡ c
-    comes_back = ap (back c) left ∙ back-taken c
-
-pub keeps : {T : Type 0} {H' R' : List ℕ} {q : Record} {o : Answered} {r : T} (returns : Told → T) (c : CRecord)
-    (H R : List ℕ) (k : Call) → changes_record k ≡ false
-    → q ≡ taken c → outcome_of o H' R' ≡ step tuple k (state_of H R q)
-    → r ≡ returns (told o.answer) → given_of (r, c) H' R' [] ≡ called_of (keeping returns) (step tuple k) H R [] c
-keeps returns c H R k n e f g = keeps-text returns c H R [] k n e f g
+pub keeps : {T : Type 0} {H' R' : List ℕ} {q : Record} {a : Result Answer Refusal} {r : T} (returns : Told → T) (c : CRecord)
+    (H R : List ℕ) (k : Call) → q ≡ taken c → kept a H' R' q ≡ step tuple k (state_of H R q)
+    → r ≡ returns (told a) → given_of (r, c) H' R' [] ≡ called_of (keeping returns) (step tuple k) H R [] c
+keeps returns c H R k e f g = keeps-text returns c H R [] k e f g
 
 -- inspect, in numbers already
 pub seen : {q : Record} {t : Seen} {r : CSeen} (c : CRecord) (H R : List ℕ) (root : ℕ)
@@ -110,42 +104,8 @@ pub seen : {q : Record} {t : Seen} {r : CSeen} (c : CRecord) (H R : List ℕ) (r
 unfolding step
 seen {q} c H R root e f g =
     let s = state_of H R q in
-    keeps {o = record { answer = (inspect tuple root s).answer; «record» = q }} seen_of c H R (Ask.Inspect root) refl e
-    (λ i. says (inspect tuple root s).answer (sym (inspect-stays tuple root s) i)) (g ∙ ap crossed f)
-
--- no number of a refusal, and none for what a root holds, needs more than 16 bits
-number_narrow : (k : Refusal) → number k < 65536
-number_narrow Why.Shape = omega arith
-number_narrow Why.Root = omega arith
-number_narrow Why.Count = omega arith
-number_narrow Why.Range = omega arith
-number_narrow Why.Object = omega arith
-number_narrow Why.Kind = omega arith
-number_narrow Why.Field = omega arith
-number_narrow Why.Damaged = omega arith
-number_narrow Why.Room = omega arith
-number_narrow Why.Value = omega arith
-number_narrow Why.Deep = omega arith
-number_narrow Why.Text = omega arith
-
-told_narrow : (a : Answer) → NarrowSeen (Places.seen_of (told a))
-told_narrow Says.Done = omega arith
-told_narrow (Says.Live n) = omega arith
-told_narrow Says.Sound = omega arith
-told_narrow Says.Unsound = omega arith
-told_narrow Says.Yes = omega arith
-told_narrow Says.No = omega arith
-told_narrow Says.Null = omega arith
-told_narrow (Says.Integer v) = omega arith
-told_narrow (Says.Object Traced n) = omega arith
-told_narrow (Says.Object Untraced n) = omega arith
-told_narrow (Says.Code w) = omega arith
-told_narrow (Says.Number w) = omega arith
-told_narrow (Says.Written n) = omega arith
-told_narrow (Says.Refused k) = (number_narrow k, omega arith)
-
-pub seen_narrow : {t : Seen} (a : Answer) → t ≡ Places.seen_of (told a) → NarrowSeen t
-seen_narrow a e = subst NarrowSeen (sym e) (told_narrow a)
+    keeps seen_of c H R (Ask.Inspect root) e
+    (λ i. record { answer = (inspect tuple root s).answer; left = sym (inspect-stays tuple root s) i }) (g ∙ ap crossed f)
 
 -- the bounds by which the record goes back
 taken_narrow : {q : Record} (c : CRecord) → q ≡ taken c → Narrow c.free → Narrow q.free.0
@@ -162,13 +122,13 @@ narrow_text c H R t k e f n = subst (λ (o : Outcome State). Narrow (free o.left
     (step_narrow tuple (lent_of H R t _) (taken_narrow c e n) k)
 
 pub narrow : {H' R' : List ℕ} {q : Record} {o : Answered} (c : CRecord) (H R : List ℕ) (k : Call)
-    → q ≡ taken c → outcome_of o H' R' ≡ step tuple k (state_of H R q)
+    → q ≡ taken c → outcome o H' R' ≡ step tuple k (state_of H R q)
     → Narrow c.free → Narrow o.«record».free.0
 narrow c H R k e f n = narrow_text c H R [] k e f n
 
 -- fresh: it does not look at the record that it is given
 pub fresh_crosses : {H' : List ℕ} {o : Answered} {r : CResult} (H : List ℕ) (q : Record) (c : CRecord)
-    → outcome_of o H' [] ≡ fresh (state_of H [] q)
+    → outcome o H' [] ≡ fresh (state_of H [] q)
     → r ≡ result_of (told o.answer) (fresh_back (told o.answer) c o.«record») → given_of r H' [] [] ≡ begun H c
 unfolding fresh refuse begun
 fresh_crosses {H'} H q c f e =
@@ -189,7 +149,7 @@ fresh_crosses {H'} H q c f e =
     go false e = rw e
 
 pub fresh_narrow : {H' : List ℕ} {o : Answered} (H : List ℕ) (q : Record) (c : CRecord)
-    → q ≡ taken c → outcome_of o H' [] ≡ fresh (state_of H [] q)
+    → q ≡ taken c → outcome o H' [] ≡ fresh (state_of H [] q)
     → Narrow c.free → Narrow o.«record».free.0
 unfolding fresh refuse
 fresh_narrow H q c e f n = subst (λ (o : Outcome State). Narrow (free o.left)) (sym f) (go (bad_length (length H)) refl)
@@ -199,7 +159,7 @@ fresh_narrow H q c e f n = subst (λ (o : Outcome State). Narrow (free o.left)) 
     go false g = rw g (omega arith)
 
 -- the window
-pub window_crosses : {q : Record} {p : Place} {w : CWindow} (c : CRecord) (H R : List ℕ) (r : ℕ)
+pub window_crosses : {q : Record} {p : Result Place Refusal} {w : CWindow} (c : CRecord) (H R : List ℕ) (r : ℕ)
     → q ≡ taken c → p ≡ window tuple r (state_of H R q)
     → w ≡ window_of p → w ≡ opened (window tuple r) H R c
 unfolding opened
@@ -209,5 +169,5 @@ window_crosses c H R r e f g = g ∙ ap window_of (f ∙ ap (λ q. window tuple 
     go true e = rw e (ap window_of (window-shape tuple (state_of H R nowhere) (nowhere-bad H R) r))
     go false e = rw e
 
-pub place_narrow : {p : Place} (r : ℕ) (s : State) → p ≡ window tuple r s → NarrowPlace p
+pub place_narrow : {p : Result Place Refusal} (r : ℕ) (s : State) → p ≡ window tuple r s → NarrowPlace p
 place_narrow r s e = subst NarrowPlace (sym e) (window_narrow tuple r s)

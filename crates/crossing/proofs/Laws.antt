@@ -10,7 +10,7 @@ use borrow.Author.Tests.{leb-true, leb-false, le-leb, ltb-false, eq-eqb, ne_eqb}
 use Rattle.model.specs.declared.Half.{Half}
 use Rattle.model.specs.declared.Half.TheVariants.{A, B}
 use Rattle.model.specs.declared.Index.{Index}
-use Rattle.model.specs.declared.Place.TheVariants as Place
+use Rattle.std.specs.Prelude.{Ok, Err}
 use Rattle.theory.proofs.Tests.{by_test, same?}
 use Rattle.theory.proofs.Window.{word_from_count, word-past-end, word-itself, word_hidden}
 use Rattle.crossing.specs.declared.CRecord.{CRecord}
@@ -49,8 +49,10 @@ record_law = record { half = λ q. record_half q.half q.free; there = λ q. reco
 
 pub word_law : Law.WordLaw
 unfolding word_at
-word_law H (Place.Refused k) f = rw (le-leb 0 f (omega arith)) (sym (word_hidden H k f))
-word_law H (Place.Object i n) f =
+word_law H (Err k) f = rw (le-leb 0 f (omega arith)) (sym (word_hidden H k f))
+word_law H (Ok p) f =
+    let i = p.header in
+    let n = p.count in
     ⊎_elim
     (λ (b : leb n f ≡ true). rw b (sym (word_from_count H i n f (leb-true n f b))))
     (λ (b : leb n f ≡ false).

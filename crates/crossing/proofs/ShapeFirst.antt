@@ -9,15 +9,15 @@ use lib.ListN.{length}
 use borrow.Author.Tests.{lt-ltb}
 use Rattle.model.specs.declared.Refusal.{Refusal}
 use Rattle.model.specs.declared.Refusal.TheVariants as Why
-use Rattle.model.specs.declared.Answer.TheVariants as Says
 use Rattle.model.specs.declared.Call.{Call}
 use Rattle.model.specs.declared.Call.TheVariants as Ask
-use Rattle.model.specs.declared.Place.TheVariants as Place
+use Rattle.std.specs.Prelude.{Err}
 use Rattle.model.specs.Limits.{max_roots}
 use Rattle.model.specs.Words.{State, state_of, half_words}
 use Rattle.model.specs.Headers.{Layout}
 use Rattle.model.specs.Shape.{bad_length, bad_shape_of, bad_shape}
-use Rattle.model.specs.Answers.{Outcome, says, refuse}
+use Rattle.model.specs.Answers as Answers
+use Rattle.model.specs.Answers.{Outcome, refuse}
 use Rattle.model.specs.Calls as Calls
 use Rattle.model.specs.Window.{window}
 use Rattle.model.specs.Sessions.{step}
@@ -33,12 +33,12 @@ nowhere-bad H R =
     (or_right (bad_length (length H) || ltb max_roots (length R)) (ltb 0 (S + 1)) low)
 
 refused : {b : Bool} {k : Refusal} {s : State} (next : Outcome State) → b ≡ true
-    → refuse b k s next ≡ says (Says.Refused k) s
+    → refuse b k s next ≡ Answers.refused k s
 unfolding refuse
 refused next e = rw e
 
 module _ (Y : Layout) (s : State) (bad : bad_shape s ≡ true) where
-  pub shape-first : (k : Call) → step Y k s ≡ says (Says.Refused Why.Shape) s
+  pub shape-first : (k : Call) → step Y k s ≡ Answers.refused Why.Shape s
   unfolding step Calls.collect Calls.check Calls.allocate Calls.set_integer Calls.set_null Calls.set_code Calls.copy Calls.load
       Calls.store Calls.raw_read Calls.raw_write Calls.same Calls.inspect Calls.write Calls.read
   shape-first Ask.Collect = refused _ bad
@@ -57,6 +57,6 @@ module _ (Y : Layout) (s : State) (bad : bad_shape s ≡ true) where
   shape-first (Ask.Write r) = refused _ bad
   shape-first (Ask.Read r) = refused _ bad
 
-  pub window-shape : (r : ℕ) → window Y r s ≡ Place.Refused Why.Shape
+  pub window-shape : (r : ℕ) → window Y r s ≡ Err Why.Shape
   unfolding window
   window-shape r = rw bad

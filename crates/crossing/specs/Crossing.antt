@@ -1,10 +1,10 @@
 -- How numbers cross to the calls and back: what the helpers that every exported call shares answer.
 -- The laws that join this to Numbers are in proofs/.
-use Rattle.std.specs.Prelude.{ℕ, ◌+◌, ◌<◌, cond, eqb}
+use Rattle.std.specs.Prelude.{ℕ, ◌+◌, ◌<◌, cond, eqb, Result, Ok, Err}
 use Rattle.model.specs.declared.Half.TheVariants.{B}
 use Rattle.model.specs.declared.Record.{Record}
 use Rattle.model.specs.declared.Place.{Place}
-use Rattle.model.specs.declared.Place.TheVariants.{Object, Refused}
+use Rattle.model.specs.declared.Refusal.{Refusal}
 use Rattle.model.specs.declared.Told.{Told}
 use Rattle.numbers.specs.declared.seen.Seen.{Seen}
 use Rattle.crossing.specs.declared.CRecord.{CRecord}
@@ -30,9 +30,9 @@ fresh_back t c q = cond (eqb t.refusal 0) (numbers_of q) c
 abbrev pub Narrow : ℕ → Type 0
 Narrow n = n < 4_294_967_296
 
-abbrev pub NarrowPlace : Place → Type 0
-NarrowPlace (Object i n) = Narrow (i.0 + 1)
-NarrowPlace (Refused k) = Unit {0}
+abbrev pub NarrowPlace : Result Place Refusal → Type 0
+NarrowPlace (Ok p) = Narrow (p.header.0 + 1)
+NarrowPlace (Err k) = Unit {0}
 
 -- the two numbers that C gets in 16 bits each
 abbrev pub NarrowSeen : Seen → Type 0

@@ -1,8 +1,9 @@
 -- What else is proved of the numbers, as types; `proofs/Laws` has the proofs.
-use Rattle.std.specs.Prelude.{ℕ, ◌≡◌, false, List}
+use Rattle.std.specs.Prelude.{ℕ, ◌≡◌, false, List, Result}
 use Rattle.model.specs.declared.Record.{Record}
 use Rattle.model.specs.declared.Call.{Call}
 use Rattle.model.specs.declared.Call.TheVariants as Ask
+use Rattle.model.specs.declared.Refusal.{Refusal}
 use Rattle.model.specs.declared.Place.{Place}
 use Rattle.model.specs.Words.{State}
 use Rattle.model.specs.Headers.{Layout}
@@ -28,7 +29,7 @@ pub record RecordLaw : Type 0 where
 
 -- the word that C gets by a window's numbers is the one that the model's window shows: on any words, at any place
 abbrev pub WordLaw : Type 0
-WordLaw = (H : List ℕ) (p : Place) (f : ℕ) → word_at H (window_of p) f ≡ window_word H p f
+WordLaw = (H : List ℕ) (p : Result Place Refusal) (f : ℕ) → word_at H (window_of p) f ≡ window_word H p f
 
 -- a call whose struct is not its own: neither collect nor inspect nor write
 abbrev pub Simple : Call → Type 0
@@ -55,4 +56,4 @@ pub record AnswersApart (Y : Layout) : Type 0 where
   pub in_word : (H H' : List ℕ) (w w' : CWindow) (f f' : ℕ) → answer_of (told (word_at H w f)) ≡ answer_of (told (word_at H' w' f'))
       → word_at H w f ≡ word_at H' w' f'
   -- and so can the places of windows
-  pub in_window : (p p' : Place) → window_of p ≡ window_of p' → p ≡ p'
+  pub in_window : (p p' : Result Place Refusal) → window_of p ≡ window_of p' → p ≡ p'

@@ -1,6 +1,7 @@
 -- What C is told: which numbers stand for a half, a record and a window, and what a call makes of the numbers that it is given.
 -- The numbers of answers and refusals are the model's, `told` and `number`; here is only where each of them goes.
-use Rattle.std.specs.Prelude.{ℕ, ◌+◌, Bool, cond, ◌||◌, List, [], ltb, leb, eqb, length}
+use Rattle.std.specs.Prelude.{ℕ, ◌+◌, Bool, cond, ◌||◌, List, [], ltb, leb, eqb, length, Result, Ok, Err}
+use Rattle.model.specs.declared.Refusal.{Refusal}
 use Rattle.model.specs.declared.Half.{Half}
 use Rattle.model.specs.declared.Half.TheVariants.{A, B}
 use Rattle.model.specs.declared.Record.{Record}
@@ -88,7 +89,7 @@ module _ {T : Type 0} (returns : Told → CRecord → T) where
 
   -- SHAPE: nothing changes, and the record is handed back as it came
   abbrev pub shape_refused : List ℕ → List ℕ → List ℕ → CRecord → Given T
-  shape_refused H R t c = given_of (returns (told (Says.Refused Why.Shape)) c) H R t
+  shape_refused H R t c = given_of (returns (told (Err Why.Shape)) c) H R t
 
   -- a call of the model, given numbers: a half that is none is SHAPE
   unfoldable pub called_of : (State → Outcome State) → List ℕ → List ℕ → List ℕ → CRecord → Given T
@@ -100,13 +101,13 @@ begun H c = cond (bad_length (length H)) (shape_refused result_of H [] [] c) (in
 
 -- ---- the window: the index of the first field's word, and how many there are
 
-abbrev pub window_of : Place → CWindow
-window_of (Place.Object i n) = record { refusal = 0; first = i.0 + 1; count = n }
-window_of (Place.Refused k) = record { refusal = number k; first = 0; count = 0 }
+abbrev pub window_of : Result Place Refusal → CWindow
+window_of (Ok p) = record { refusal = 0; first = p.header.0 + 1; count = p.count }
+window_of (Err k) = record { refusal = number k; first = 0; count = 0 }
 
-unfoldable pub opened : (State → Place) → List ℕ → List ℕ → CRecord → CWindow
-opened f H R c = window_of (cond (no_half c) (Place.Refused Why.Shape) (f (state_of H R (record_of c))))
+unfoldable pub opened : (State → Result Place Refusal) → List ℕ → List ℕ → CRecord → CWindow
+opened f H R c = window_of (cond (no_half c) (Err Why.Shape) (f (state_of H R (record_of c))))
 
 -- the word at a field number, by the window's numbers alone: FIELD where they name no word of this heap
-unfoldable pub word_at : List ℕ → CWindow → ℕ → Answer
-word_at H w f = cond (leb w.count f || leb (length H) (w.first + f)) (Says.Refused Why.Field) (Says.Number (at H (w.first + f)))
+unfoldable pub word_at : List ℕ → CWindow → ℕ → Result Answer Refusal
+word_at H w f = cond (leb w.count f || leb (length H) (w.first + f)) (Err Why.Field) (Ok (Says.Number (at H (w.first + f))))

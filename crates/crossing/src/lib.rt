@@ -1,5 +1,6 @@
 // What C gives and gets, and the steps between that and the library's types. No enum crosses to C, so that
-// each half, kind and refusal is a number there.
+// each half, kind and refusal is a number there. The steps are functions, and not `From`: most of them ask
+// for numbers that fit C's, which `From` cannot.
 #![tactic(auto)]
 
 ghost use Rattle.std.specs.Prelude.{◌≡◌};
@@ -94,11 +95,9 @@ pub fn numbers_of(record: Record) -> CRecord
     requires { Narrow «record».free.0 }
     ensures { result ≡ Numbers.numbers_of «record» }
 {
-    let half = record.half;
-    let free = record.free.0 as u32;
-    match half {
-        Half::A => CRecord { half: 0, free },
-        Half::B => CRecord { half: 1, free },
+    CRecord {
+        half: record.half as u32,
+        free: record.free.0 as u32,
     }
 }
 
@@ -117,20 +116,18 @@ pub fn result_of(came: CRecord, done: Answered) -> CResult
     requires { Narrow done.«record».free.0 }
     ensures { result ≡ Numbers.result_of (told done.answer) (back came done.«record») }
 {
-    let said = done.answer;
-    let told = numbers::told(said);
-    let record = record_after(came, done.record);
+    let told = numbers::told(done.answer);
     CResult {
         refusal: told.refusal,
         value: told.value,
-        record,
+        record: record_after(came, done.record),
     }
 }
 
 // Of a call that is done and names no answer.
 pub fn done_with(record: Record) -> CResult
     requires { Narrow «record».free.0 }
-    ensures { result ≡ Numbers.result_of (told Says.Done) (Numbers.numbers_of «record») }
+    ensures { result ≡ Numbers.result_of (told (Ok Says.Done)) (Numbers.numbers_of «record») }
 {
     CResult {
         refusal: 0,
@@ -145,8 +142,7 @@ pub fn fresh_result_of(came: CRecord, done: Answered) -> CResult
     ensures { result
         ≡ Numbers.result_of (told done.answer) (fresh_back (told done.answer) came done.«record») }
 {
-    let said = done.answer;
-    let told = numbers::told(said);
+    let told = numbers::told(done.answer);
     let record = if told.refusal == 0 {
         numbers_of(done.record)
     } else {
@@ -163,19 +159,17 @@ pub fn collected_of(came: CRecord, done: Answered) -> CCollected
     requires { Narrow done.«record».free.0 }
     ensures { result ≡ Numbers.collected_of (told done.answer) (back came done.«record») }
 {
-    let said = done.answer;
-    let told = numbers::told(said);
-    let record = record_after(came, done.record);
+    let told = numbers::told(done.answer);
     CCollected {
         refusal: told.refusal,
         live: told.value,
         objects: told.objects,
         addresses: told.addresses,
-        record,
+        record: record_after(came, done.record),
     }
 }
 
-pub fn answer_of(answer: Answer) -> CAnswer
+pub fn answer_of(answer: Result<Answer, Refusal>) -> CAnswer
     ensures { result ≡ Numbers.answer_of (told answer) }
 {
     let told = numbers::told(answer);
@@ -190,18 +184,16 @@ pub fn seen_of(seen: Seen) -> CSeen
     requires { NarrowSeen seen }
     ensures { result ≡ Numbers.crossed seen }
 {
-    let refusal = seen.refusal as u16;
-    let kind = seen.holds as u16;
     CSeen {
-        refusal,
-        kind,
+        refusal: seen.refusal as u16,
+        kind: seen.holds as u16,
         integer: seen.integer,
         count: seen.count,
         code: seen.code,
     }
 }
 
-pub fn written_of(answer: Answer) -> CWritten
+pub fn written_of(answer: Result<Answer, Refusal>) -> CWritten
     ensures { result ≡ Numbers.written_of (told answer) }
 {
     let told = numbers::told(answer);
@@ -212,17 +204,17 @@ pub fn written_of(answer: Answer) -> CWritten
     }
 }
 
-pub fn window_of(place: Place) -> CWindow
+pub fn window_of(place: Result<Place, Refusal>) -> CWindow
     requires { NarrowPlace place }
     ensures { result ≡ Numbers.window_of place }
 {
     match place {
-        Place::Object(index, count) => CWindow {
+        Ok(place) => CWindow {
             refusal: 0,
-            first: (index.0 + 1) as u32,
-            count,
+            first: (place.header.0 + 1) as u32,
+            count: place.count,
         },
-        Place::Refused(refusal) => CWindow {
+        Err(refusal) => CWindow {
             refusal: number(refusal),
             first: 0,
             count: 0,
@@ -237,11 +229,11 @@ pub fn word_at(heap: &[u32], window: CWindow, field: usize) -> CAnswer
 {
     let count = window.count as usize;
     if count <= field {
-        return answer_of(Answer::Refused(Refusal::Field));
+        return answer_of(Err(Refusal::Field));
     }
     let at = window.first as usize + field;
     if heap.len() <= at {
-        return answer_of(Answer::Refused(Refusal::Field));
+        return answer_of(Err(Refusal::Field));
     }
-    answer_of(Answer::Number(heap[at]))
+    answer_of(Ok(Answer::Number(heap[at])))
 }

@@ -5,6 +5,7 @@ use mathlib.Core.Path.{◌≡◌, refl}
 use mathlib.Core.Logic.{◌⊎◌, inr, ⊎_elim}
 use lib.ListN.{length}
 use borrow.Author.Tests.{lt-ltb, le-ltb, le-leb, lt-leb}
+use Rattle.std.specs.Prelude.{Ok, Err}
 use Rattle.model.specs.declared.Kind.{Kind}
 use Rattle.model.specs.declared.Refusal.{Refusal}
 use Rattle.model.specs.declared.Refusal.TheVariants as Why
@@ -36,12 +37,12 @@ module _ (k : Kind) (n r : ℕ) where
   allocate-is Y s h l u = rw (unshaped s h.shape, lt-leb (length s.roots) r l, le-ltb max_fields n u)
 
   -- which the graph carries out
-  pub allocate_carried : (g : Graph) → r < length g.roots → n ≤ max_fields → (graph_step (Ask.Allocate k n r) g).answer ≡ Says.Done
+  pub allocate_carried : (g : Graph) → r < length g.roots → n ≤ max_fields → (graph_step (Ask.Allocate k n r) g).answer ≡ Ok Says.Done
   unfolding graph_step refuse
   allocate_carried g a b = rw (lt-leb (length g.roots) r a, le-ltb max_fields n b)
 
   -- and one that is carried out has such a root and count
-  pub allocation_legal : (g : Graph) → ((j : Refusal) → (graph_step (Ask.Allocate k n r) g).answer ≡ Says.Refused j → ⊥)
+  pub allocation_legal : (g : Graph) → ((j : Refusal) → (graph_step (Ask.Allocate k n r) g).answer ≡ Err j → ⊥)
       → (r < length g.roots) × (n ≤ max_fields)
   unfolding graph_step refuse
   allocation_legal g f =

@@ -5,6 +5,7 @@ use mathlib.Core.Path.{◌≡◌, refl, sym, ap, ◌∙◌, subst}
 use mathlib.Core.Logic.{◌⊎◌, inr, ⊎_elim}
 use lib.ListN.{length}
 use borrow.Author.Tests.{le-leb, lt-leb}
+use Rattle.std.specs.Prelude.{Ok, Err}
 use Rattle.model.specs.declared.Refusal.{Refusal}
 use Rattle.model.specs.declared.Refusal.TheVariants as Why
 use Rattle.model.specs.declared.Answer.TheVariants as Says
@@ -46,11 +47,11 @@ module _ (r : ℕ) where
       → step Y (Ask.Read r) s ≡ with_room Y (tree_words t) (planted Y t r) s
   read-tree Y s h l t e = read_is Y s h l ∙ ap (reads Y r s) e
 
-  pub read_carried : (g : Graph) → r < length g.roots → (t : Tree) → parsed g.text ≡ tree t → (graph_step (Ask.Read r) g).answer ≡ Says.Done
+  pub read_carried : (g : Graph) → r < length g.roots → (t : Tree) → parsed g.text ≡ tree t → (graph_step (Ask.Read r) g).answer ≡ Ok Says.Done
   read_carried g l t e = ap (λ o. o.answer) (graph-read-is g l ∙ ap (graph_reads r g) e)
 
   -- and one that is carried out has a legal root
-  pub read_legal : (g : Graph) → ((j : Refusal) → (graph_step (Ask.Read r) g).answer ≡ Says.Refused j → ⊥) → r < length g.roots
+  pub read_legal : (g : Graph) → ((j : Refusal) → (graph_step (Ask.Read r) g).answer ≡ Err j → ⊥) → r < length g.roots
   unfolding graph_step refuse
   read_legal g f =
       ⊎_elim (λ (a : r < length g.roots). a)

@@ -9,6 +9,7 @@ use lib.Dec.{leb}
 use lib.ListN.{length, get_or, set, length-set}
 use lib.Seq.{get_or-set_same, get_or-set_other}
 use borrow.Author.Tests.{leb-false}
+use Rattle.std.specs.Prelude.{Ok}
 use Rattle.model.specs.declared.Kind.{Kind}
 use Rattle.model.specs.declared.Kind.TheVariants.{Traced, Untraced}
 use Rattle.model.specs.declared.Refusal.TheVariants as Why
@@ -249,7 +250,7 @@ module _ (Y : Layout) (near : Adjacent Y) where
       roots_agree Y (r ∷ []) s g _ _ m (λ a.
       untraced-field s g m (root_value g r) (root_word s r) f _ (λ i ws. says (Says.Number (get_or ws f 0)) g)
       (m.roots r (has_root Y s g m r a))
-      (λ x ws i e o l. (ap Says.Number (rw (e, index-address Y (m.header_of x)) ((held s g m x (untraced ws) i o).2 f l)), m)))
+      (λ x ws i e o l. (ap (λ w. Ok (Says.Number w)) (rw (e, index-address Y (m.header_of x)) ((held s g m x (untraced ws) i o).2 f l)), m)))
 
   raw_represents : (s : State) (g : Graph) (m : Represents Y s g) (x f w : ℕ) (ws : List ℕ) → In x m.kept
       → nth g x ≡ untraced ws → f < length ws

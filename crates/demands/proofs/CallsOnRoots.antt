@@ -10,6 +10,7 @@ use lib.IntN.{ℤ, pos, negsuc}
 use lib.ListN.{length, get_or, set, length-set}
 use lib.Seq.{get_or-set_same, get_or-set_other}
 use borrow.Author.Tests.{leb-true, leb-false, eq-eqb, ne_eqb, not-false}
+use Rattle.std.specs.Prelude.{Ok}
 use Rattle.model.specs.declared.Kind.TheVariants.{Traced, Untraced}
 use Rattle.model.specs.declared.Refusal.TheVariants as Why
 use Rattle.model.specs.declared.Answer.TheVariants as Says
@@ -181,7 +182,7 @@ module _ (Y : Layout) (near : Adjacent Y) where
   same_agrees p q s g m =
       roots_agree Y (p ∷ q ∷ []) s g _ _ m (λ a.
       let b = or-none (no_root s p) (no_root s q) a in (
-        ap (λ x. cond x Says.Yes Says.No)
+        ap (λ x. Ok (cond x Says.Yes Says.No))
             (same_word s g m (root_value g p) (root_value g q) (root_word s p) (root_word s q)
             (m.roots p (has_root Y s g m p b.0)) (m.roots q (has_root Y s g m q b.1))),
         m,

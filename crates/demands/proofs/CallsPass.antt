@@ -9,11 +9,13 @@ use lib.Dec.{eqb}
 use lib.IntN.{ℤ}
 use lib.ListN.{length}
 use borrow.Author.Tests.{leb-false, le-leb, lt-leb, not-false}
+use Rattle.std.specs.Prelude.{Result, Ok}
 use Rattle.model.specs.declared.Kind.{Kind}
 use Rattle.model.specs.declared.Kind.TheVariants.{Traced, Untraced}
 use Rattle.model.specs.declared.Answer.{Answer}
 use Rattle.model.specs.declared.Answer.TheVariants as Says
 use Rattle.model.specs.declared.Call.TheVariants as Ask
+use Rattle.model.specs.declared.Refusal.{Refusal}
 use Rattle.model.specs.Admission.{on_roots}
 use Rattle.model.specs.Answers.{Outcome, says, refuse}
 use Rattle.model.specs.Calls as Calls
@@ -45,6 +47,10 @@ use Rattle.theory.proofs.WordSorts.{other-address}
 -- a condition that does not hold, by its test
 pub fails_test : {b : Bool} {P : Type 0} → Decides b P → (P → ⊥) → b ≡ false
 fails_test {b} d n = ⊎_elim (λ (e : b ≡ true). absurd (n (d.holds e))) (λ (e : b ≡ false). e) (by_test b)
+
+-- two answers that are equal as what a call returns
+pub same-answer : (a b : Answer) → ◌≡◌ {A = Result Answer Refusal} (Ok a) (Ok b) → a ≡ b
+same-answer a b e = cc
 
 -- "done" with a change
 pub done_with : {o : Outcome State} (P : State → Type 0) (t : State) → o ≡ says Says.Done t → P t → E.Done o P

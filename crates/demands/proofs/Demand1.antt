@@ -6,10 +6,11 @@ use mathlib.Core.Logic.{inl, inr, ⊎_elim}
 use mathlib.Core.Bool.{Bool, true, false, not, cond}
 use mathlib.Core.List.{List, [], ◌∷◌}
 use lib.ListN.{length}
+use Rattle.std.specs.Prelude.{Result, Err}
+use Rattle.std.proofs.lemmas.Result.{IfErr-at_err}
 use Rattle.model.specs.declared.Refusal.{Refusal}
 use Rattle.model.specs.declared.Call.{Call}
 use Rattle.model.specs.declared.Place.{Place}
-use Rattle.model.specs.declared.Index.{Index}
 use Rattle.model.specs.declared.Refusal.TheVariants as Why
 use Rattle.model.specs.declared.Answer.TheVariants as Says
 use Rattle.model.specs.declared.Call.TheVariants as Ask
@@ -27,7 +28,7 @@ use Rattle.model.specs.Sessions.{step, machine}
 use Rattle.model.specs.Shape.{bad_length, bad_shape}
 use Rattle.model.specs.Window.{window}
 use Rattle.model.specs.Words.{State}
-use Rattle.theory.proofs.PlainAnswers.{refused-same, done_plainly}
+use Rattle.theory.proofs.PlainAnswers.{refused-same, plainly}
 use Rattle.demands.proofs.Conditions.{roots_decide, object_decides}
 use Rattle.theory.proofs.Deciding.{length_decides, shape_decides}
 use Rattle.demands.proofs.Judged.{Left, unchanged, recollected, Judged, by_row, by_none, judged_refuse, judged_says}
@@ -42,7 +43,7 @@ module _ (Y : Layout) where
 
   -- what a refused outcome leaves
   judged-left : (s : State) (qs : List Row.Row) (o : Outcome State) (k : Refusal) → Judged Y s qs o
-      → o.answer ≡ Says.Refused k
+      → o.answer ≡ Err k
       → Left Y s k o.left
   judged-left s qs o k (by_row j f e l) a = subst (λ z. Left Y s z o.left) (refused-same j k (sym e ∙ a)) l
   judged-left s qs o k (by_none n p) a = absurd (p k a)
@@ -60,39 +61,36 @@ module _ (Y : Layout) where
 
   fresh-judged : (s : State) → Judged Y s (Row.fresh_rows s) (fresh s)
   unfolding fresh
-  fresh-judged s = judged_refuse Y s _ Why.Shape _ _ _ refl (length_decides s) (λ e. judged_says Y s _ _ done_plainly)
+  fresh-judged s = judged_refuse Y s _ Why.Shape _ _ _ refl (length_decides s) (λ e. judged_says Y s _ _)
 
   fresh_keeps_lem : (s : State) (k : Refusal) → D1.Refused (fresh s) k → (fresh s).left ≡ s
   unfolding fresh refuse
   fresh_keeps_lem s k e =
       ⊎_elim
       (λ (b : bad_length (length s.heap) ≡ true). rw b)
-      (λ (b : bad_length (length s.heap) ≡ false). absurd (done_plainly k (rw b at e)))
+      (λ (b : bad_length (length s.heap) ≡ false). absurd (plainly Says.Done k (rw b at e)))
       (by_test (bad_length (length s.heap)))
 
   -- the window: its place by the same rows
-  place_after : (b : Bool) (k : Refusal) (P : Type 0) (qs : List Row.Row) (p : Place) → Decides b P
-      → (b ≡ false → Settled qs (λ j. p ≡ Place.Refused j))
-      → Settled (Row.row k P ∷ qs) (λ j. cond b (Place.Refused k) p ≡ Place.Refused j)
+  place_after : (b : Bool) (k : Refusal) (P : Type 0) (qs : List Row.Row) (p : Result Place Refusal) → Decides b P
+      → (b ≡ false → Settled qs (λ j. p ≡ Err j))
+      → Settled (Row.row k P ∷ qs) (λ j. cond b (Err k) p ≡ Err j)
   place_after true k P qs p d f = refused k (inl (d.holds refl, refl)) refl
   place_after false k P qs p d f = go (f refl)
     where
-      go : Settled qs (λ j. p ≡ Place.Refused j) → Settled (Row.row k P ∷ qs) (λ j. p ≡ Place.Refused j)
+      go : Settled qs (λ j. p ≡ Err j) → Settled (Row.row k P ∷ qs) (λ j. p ≡ Err j)
       go (refused j g e) = refused j (inr (d.fails refl, g)) e
       go (passed n h) = passed (d.fails refl, n) h
 
-  object-place : (i : Index) (n : ℕ) (k : Refusal) → Place.Object i n ≡ Place.Refused k → ⊥
-  object-place i n k e = let z : ◌≡◌ {A = ℕ} 0 1 = cc in omega arith
-
-  window-settled : (r : ℕ) (s : State) → Settled (Row.window_rows Y r s) (λ k. window Y r s ≡ Place.Refused k)
+  window-settled : (r : ℕ) (s : State) → Settled (Row.window_rows Y r s) (λ k. window Y r s ≡ Err k)
   unfolding window
   window-settled r s =
       place_after (bad_shape s) Why.Shape _ _ _ (shape_decides s) (λ a.
       place_after (no_roots (length s.roots) (r ∷ [])) Why.Root _ _ _ (roots_decide s (r ∷ [])) (λ b.
       place_after (not (names Y s (root_word s r))) Why.Object _ _ _ (object_decides Y s r)
-      (λ c. passed tt (object-place _ _))))
+      (λ c. passed tt (λ k e. IfErr-at_err (λ j. ⊥) e tt))))
 
-  one_place : (p : Place) (j k : Refusal) → p ≡ Place.Refused j → p ≡ Place.Refused k → j ≡ k
+  one_place : (p : Result Place Refusal) (j k : Refusal) → p ≡ Err j → p ≡ Err k → j ≡ k
   one_place p j k a b = cc
 
   -- the ranks rise along the rows of each call

@@ -6,6 +6,7 @@ use mathlib.Core.Logic.{⊎_elim, ◌↔◌}
 use mathlib.Core.List.{List, []}
 use lib.ListN.{length}
 use Rattle.model.specs.declared.Refusal.TheVariants as Why
+use Rattle.model.specs.declared.Answer.TheVariants as Says
 use Rattle.model.specs.Demand3 as D3
 use Rattle.model.specs.Graph.{Graph, empty_graph, total_words, graph_order, graph_counts}
 use Rattle.model.specs.GraphCalls.{graph_with_text, graph_asked, graph_after}
@@ -20,7 +21,7 @@ use Rattle.demands.proofs.GraphClosed.{session-known}
 use Rattle.demands.proofs.GraphReach.{lists-whole, live-listed, objects-listed, addresses-listed}
 use Rattle.theory.proofs.Headers.{tuple_lawful, tuple_adjacent}
 use Rattle.demands.proofs.KeepSound.{stays-sound}
-use Rattle.theory.proofs.PlainAnswers.{not-room, done_plainly}
+use Rattle.theory.proofs.PlainAnswers.{not-room, plainly}
 use Rattle.demands.proofs.Represents.{represents_known, Agrees, text_represents}
 use Rattle.demands.proofs.Session.{Stands, lends, step_exceeds, asked-goes, runs, after_represents, session_refuses}
 use Rattle.demands.proofs.Standing.{sound_represents}
@@ -60,7 +61,7 @@ module _ (Y : Layout) (law : WritesBoth Y) (near : Adjacent Y) where
 
     full_exceeds : Full Y c.call t q (asked (machine Y) c s) → D3.Exceeds S g c
     full_exceeds u = record {
-      unrefused = λ k x. done_plainly k (sym u.carried ∙ x);
+      unrefused = λ k x. plainly Says.Done k (sym u.carried ∙ x);
       words = u.words;
       needs = u.needs;
       exceed = omega (arith, u.exceed, text-live c.text g);

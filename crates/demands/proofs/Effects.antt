@@ -7,8 +7,10 @@ use mathlib.Core.Bool.{Bool, true, false, cond}
 use lib.Dec.{eqb}
 use lib.ListN.{length, length-replicate}
 use borrow.Author.Tests.{eqb-true, eqb-false, eq-eqb, ne_eqb}
+use Rattle.std.specs.Prelude.{Result, Ok}
 use Rattle.model.specs.declared.Answer.{Answer}
 use Rattle.model.specs.declared.Answer.TheVariants as Says
+use Rattle.model.specs.declared.Refusal.{Refusal}
 use Rattle.model.specs.Calls.{fresh}
 use Rattle.model.specs.Changes.{root_word}
 use Rattle.model.specs.Conditions as C
@@ -20,7 +22,7 @@ use Rattle.model.specs.Sessions.{machine}
 use Rattle.model.specs.Soundness.{sound}
 use Rattle.model.specs.Values.{untag}
 use Rattle.model.specs.Words.{State}
-use Rattle.demands.proofs.CallsPass.{fails_test, done_with, set-integer, set-null, set-code, copies, loads, stores}
+use Rattle.demands.proofs.CallsPass.{same-answer, fails_test, done_with, set-integer, set-null, set-code, copies, loads, stores}
 use Rattle.demands.proofs.CallsPass.{raw-writes, raw-reads, checks, sames, seen, object_seen, inspects, allocates_now}
 use Rattle.demands.proofs.CallsPass.{allocates_then}
 use Rattle.theory.proofs.Deciding.{length_decides, named-address, sound_decides}
@@ -32,12 +34,14 @@ use Rattle.demands.proofs.TreeRead.{reads_now, reads_then}
 use Rattle.theory.proofs.WordSorts.{parts_code, address_no_code}
 
 -- one of two answers by a test, and the condition that the test decides
-chosen_true : {P : Type 0} (b : Bool) (x y : Answer) → Decides b P → (y ≡ x → ⊥) → (cond b x y ≡ x) ↔ P
+chosen_true : {P : Type 0} (b : Bool) (x y : Answer) → Decides b P → (y ≡ x → ⊥)
+    → ◌≡◌ {A = Result Answer Refusal} (Ok (cond b x y)) (Ok x) ↔ P
 chosen_true true x y d n = (λ e. d.holds refl, λ p. refl)
-chosen_true false x y d n = (λ e. absurd (n e), λ p. absurd (d.fails refl p))
+chosen_true false x y d n = (λ e. absurd (n (same-answer y x e)), λ p. absurd (d.fails refl p))
 
-chosen_false : {P : Type 0} (b : Bool) (x y : Answer) → Decides b P → (x ≡ y → ⊥) → (cond b x y ≡ y) ↔ (P → ⊥)
-chosen_false true x y d n = (λ e. absurd (n e), λ f. absurd (f (d.holds refl)))
+chosen_false : {P : Type 0} (b : Bool) (x y : Answer) → Decides b P → (x ≡ y → ⊥)
+    → ◌≡◌ {A = Result Answer Refusal} (Ok (cond b x y)) (Ok y) ↔ (P → ⊥)
+chosen_false true x y d n = (λ e. absurd (n (same-answer x y e)), λ f. absurd (f (d.holds refl)))
 chosen_false false x y d n = (λ e. d.fails refl, λ f. refl)
 
 equal_decides : (a b : ℕ) → Decides (eqb a b) (a ≡ b)
@@ -104,10 +108,10 @@ module _ (Y : Layout) where
         (chosen_false (eqb (root_word s r) (root_word s q)) Says.Yes Says.No (equal_decides (root_word s r) (root_word s q))
         (λ e. no_yes (sym e)));
     same_leaves = λ r q s p. ap (λ o. o.left) (sames Y s r q p);
-    inspect_null = λ r s p e. ap (λ o. o.answer) (inspects Y s r p) ∙ seen-null s (root_word s r) e;
-    inspect_integer = λ r s p e. ap (λ o. o.answer) (inspects Y s r p) ∙ seen-integer s (root_word s r) e;
-    inspect_code = λ r s p e l. ap (λ o. o.answer) (inspects Y s r p) ∙ seen-code s (root_word s r) e l;
-    inspect_object = λ r s p n. ap (λ o. o.answer) (inspects Y s r p) ∙ seen-object s (root_word s r) n;
+    inspect_null = λ r s p e. ap (λ o. o.answer) (inspects Y s r p) ∙ ap Ok (seen-null s (root_word s r) e);
+    inspect_integer = λ r s p e. ap (λ o. o.answer) (inspects Y s r p) ∙ ap Ok (seen-integer s (root_word s r) e);
+    inspect_code = λ r s p e l. ap (λ o. o.answer) (inspects Y s r p) ∙ ap Ok (seen-code s (root_word s r) e l);
+    inspect_object = λ r s p n. ap (λ o. o.answer) (inspects Y s r p) ∙ ap Ok (seen-object s (root_word s r) n);
     inspect_leaves = λ r s p. ap (λ o. o.left) (inspects Y s r p);
     write = λ r s p. writes-text Y s r p;
     read_now = λ r s t p i f. reads_now Y r s t p i f;

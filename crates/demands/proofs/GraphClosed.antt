@@ -137,8 +137,8 @@ text_closed g t h = record { roots = h.roots; fields = h.fields }
 
 step_closed : (c : Call) (g : Graph) → Closed g → Closed (graph_step c g).left
 step_closed c g h = graph-step g (λ o. Closed o.left) (record {
-  refused = λ k e. h;
-  answered = λ a f. h;
+  refused_with = λ k e. h;
+  answered = λ a. h;
   set-plain = λ r p. root_closed g r (plain p) h tt;
   copied = λ from to. root_closed g to (root_value g from) h (h.roots from);
   loaded = λ i f to vs e. root_closed g to (get_or vs f (plain null)) h (traced_under g i vs h e f);

@@ -7,20 +7,18 @@ use mathlib.Core.Bool.{Bool, true, false}
 use mathlib.Core.List.{List}
 use lib.ListN.{length, get_or, set}
 use Rattle.model.specs.declared.Kind.{Kind}
-use Rattle.model.specs.declared.Kind.TheVariants.{Traced, Untraced}
 use Rattle.model.specs.declared.Refusal.{Refusal}
 use Rattle.model.specs.declared.Answer.{Answer}
 use Rattle.model.specs.declared.Call.{Call}
 use Rattle.model.specs.declared.Refusal.TheVariants as Why
 use Rattle.model.specs.declared.Answer.TheVariants as Says
 use Rattle.model.specs.declared.Call.TheVariants as Ask
-use Rattle.model.specs.Answers.{Outcome, says, refuse}
+use Rattle.model.specs.Answers.{Outcome, says, refuse, refused}
 use Rattle.model.specs.Graph.{Plain, integer, null, code, Value, plain, object, Object, traced, untraced, Graph, nth}
-use Rattle.model.specs.Graph.{root_value, graph_counts}
-use Rattle.model.specs.GraphCalls.{graph_with_root, with_object, grown, same_value, by_kind, on_object, plain_answer}
+use Rattle.model.specs.Graph.{root_value}
+use Rattle.model.specs.GraphCalls.{graph_with_root, with_object, grown, by_kind, on_object, plain_answer}
 use Rattle.model.specs.GraphCalls.{graph_with_text, inspected, plain_form, object_form, value_form, graph_step}
 use Rattle.model.specs.Texts.{textless, Piece, Spelled, whole, broken, max_depth, value_pieces, spelled, over, writes}
-use Rattle.theory.proofs.PlainAnswers.{Plainly, plainly, either_plainly, object_plainly, plain_plainly}
 use Rattle.model.specs.GraphCalls.{graph_planted, graph_reads}
 use Rattle.model.specs.Reading as Reading
 use Rattle.model.specs.Reading.{Parsed, tree, parsed}
@@ -64,8 +62,8 @@ form_mild g (object i) k e = object_mild (nth g i) k e
 
 -- the answers that change nothing, and the changes, each with what the call knows of its object
 pub record GraphKept (g : Graph) (P : Outcome Graph → Type 0) : Type 0 where
-  pub refused : (k : Refusal) → of_graph k ≡ true → P (says (Says.Refused k) g)
-  pub answered : (a : Answer) → Plainly a → P (says a g)
+  pub refused_with : (k : Refusal) → of_graph k ≡ true → P (refused k g)
+  pub answered : (a : Answer) → P (says a g)
   pub set-plain : (r : ℕ) (p : Plain) → P (says Says.Done (graph_with_root g r (plain p)))
   pub copied : (from to : ℕ) → P (says Says.Done (graph_with_root g to (root_value g from)))
   pub loaded : (i f to : ℕ) (vs : List Value) → nth g i ≡ traced vs
@@ -83,7 +81,7 @@ data Holds (P : Outcome Graph → Type 0) : Outcome Graph → Type 0 where
 module _ (g : Graph) (P : Outcome Graph → Type 0) (h : GraphKept g P) where
   after : (b : Bool) (k : Refusal) (o : Outcome Graph) → of_graph k ≡ true → Holds P o → Holds P (refuse b k g o)
   unfolding refuse
-  after b k o e p = cond-holds (Holds P) b _ o (λ t. holds (h.refused k e)) (λ t. p)
+  after b k o e p = cond-holds (Holds P) b _ o (λ t. holds (h.refused_with k e)) (λ t. p)
 
   by_kind_lem : (b : Object) (t : List Value → Outcome Graph) (u : List ℕ → Outcome Graph)
       → ((vs : List Value) → b ≡ traced vs → Holds P (t vs)) → ((ws : List ℕ) → Holds P (u ws)) → Holds P (by_kind b t u)
@@ -94,24 +92,24 @@ module _ (g : Graph) (P : Outcome Graph → Type 0) (h : GraphKept g P) where
       → ((i : ℕ) (vs : List Value) → nth g i ≡ traced vs → Holds P (t i vs)) → ((i : ℕ) (ws : List ℕ) → Holds P (u i ws))
       → Holds P (on_object g v t u)
   unfolding on_object
-  on_object_lem (plain p) t u f w = holds (h.refused Why.Object refl)
+  on_object_lem (plain p) t u f w = holds (h.refused_with Why.Object refl)
   on_object_lem (object i) t u f w = by_kind_lem (nth g i) (t i) (u i) (f i) (w i)
 
   inspects : (v : Value) → Holds P (inspected g v)
   unfolding inspected
-  inspects (plain p) = holds (h.answered (plain_answer p) (plain_plainly p))
+  inspects (plain p) = holds (h.answered (plain_answer p))
   inspects (object i) =
-      by_kind_lem (nth g i) _ _ (λ vs e. holds (h.answered _ (object_plainly Traced (length vs))))
-      (λ ws. holds (h.answered _ (object_plainly Untraced (length ws))))
+      by_kind_lem (nth g i) _ _ (λ vs e. holds (h.answered _))
+      (λ ws. holds (h.answered _))
 
   writes-holds : (ps : List Piece) (x : Spelled) → Faults Mild ps → spelled (length g.text) ps ≡ x
       → Holds P (writes (λ t. graph_with_text t g) g g.text x)
   writes-holds ps (whole bs) m e = holds (h.text_written (over bs g.text) (length bs))
-  writes-holds ps (broken k) m e = holds (h.refused k (broken-fault Mild refl (length g.text) ps k m e))
+  writes-holds ps (broken k) m e = holds (h.refused_with k (broken-fault Mild refl (length g.text) ps k m e))
 
   reads-holds : (r : ℕ) (x : Parsed) → parsed g.text ≡ x → Holds P (graph_reads r g x)
   reads-holds r (tree t) e = holds (h.planted t r)
-  reads-holds r (Reading.broken k) e = holds (h.refused k (fault_mild (first-read-fault g.text k e).is_fault))
+  reads-holds r (Reading.broken k) e = holds (h.refused_with k (fault_mild (first-read-fault g.text k e).is_fault))
     where
       fault_mild : {p : ℕ} {k : Refusal} → ReadFault g.text p k → Mild k
       fault_mild (breach p l f) = refl
@@ -120,8 +118,8 @@ module _ (g : Graph) (P : Outcome Graph → Type 0) (h : GraphKept g P) where
 
   step-holds : (c : Call) → Holds P (graph_step c g)
   unfolding graph_step
-  step-holds Ask.Collect = after _ Why.Root _ refl (holds (h.answered _ (plainly (Says.Live (graph_counts g)) refl)))
-  step-holds Ask.Check = after _ Why.Root _ refl (holds (h.answered _ (plainly Says.Sound refl)))
+  step-holds Ask.Collect = after _ Why.Root _ refl (holds (h.answered _))
+  step-holds Ask.Check = after _ Why.Root _ refl (holds (h.answered _))
   step-holds (Ask.Allocate k n r) = after _ Why.Root _ refl (after _ Why.Count _ refl (holds (h.allocated k n r)))
   step-holds (Ask.SetInteger r v) = after _ Why.Root _ refl (after _ Why.Range _ refl (holds (h.set-plain r (integer v))))
   step-holds (Ask.SetNull r) = after _ Why.Root _ refl (holds (h.set-plain r null))
@@ -130,21 +128,19 @@ module _ (g : Graph) (P : Outcome Graph → Type 0) (h : GraphKept g P) where
   step-holds (Ask.Load r f to) =
       after _ Why.Root _ refl
       (on_object_lem (root_value g r) _ _ (λ i vs e. after _ Why.Field _ refl (holds (h.loaded i f to vs e)))
-      (λ i ws. holds (h.refused Why.Kind refl)))
+      (λ i ws. holds (h.refused_with Why.Kind refl)))
   step-holds (Ask.Store r f from) =
       after _ Why.Root _ refl
       (on_object_lem (root_value g r) _ _ (λ i vs e. after _ Why.Field _ refl (holds (h.stored i f from vs e)))
-      (λ i ws. holds (h.refused Why.Kind refl)))
+      (λ i ws. holds (h.refused_with Why.Kind refl)))
   step-holds (Ask.RawRead r f) =
-      after _ Why.Root _ refl (on_object_lem (root_value g r) _ _ (λ i vs e. holds (h.refused Why.Kind refl))
-      (λ i ws. after _ Why.Field _ refl (holds (h.answered _ (plainly (Says.Number (get_or ws f 0)) refl)))))
+      after _ Why.Root _ refl (on_object_lem (root_value g r) _ _ (λ i vs e. holds (h.refused_with Why.Kind refl))
+      (λ i ws. after _ Why.Field _ refl (holds (h.answered _))))
   step-holds (Ask.RawWrite r f x) =
       after _ Why.Root _ refl
-      (on_object_lem (root_value g r) _ _ (λ i vs e. holds (h.refused Why.Kind refl))
+      (on_object_lem (root_value g r) _ _ (λ i vs e. holds (h.refused_with Why.Kind refl))
       (λ i ws. after _ Why.Field _ refl (holds (h.raw_written i f x ws))))
-  step-holds (Ask.Same r q) =
-      after _ Why.Root _ refl
-      (holds (h.answered _ (either_plainly (same_value (root_value g r) (root_value g q)) Says.Yes Says.No refl refl)))
+  step-holds (Ask.Same r q) = after _ Why.Root _ refl (holds (h.answered _))
   step-holds (Ask.Inspect r) = after _ Why.Root _ refl (inspects (root_value g r))
   step-holds (Ask.Read r) = after _ Why.Root _ refl (reads-holds r (parsed g.text) refl)
   step-holds (Ask.Write r) =

@@ -7,6 +7,9 @@ use mathlib.Core.Bool.{true, false}
 use lib.Dec.{ltb}
 use lib.ListN.{length, take, drop, length-take, length-drop, length-replicate}
 use borrow.Author.Tests.{eqb-true, eq-eqb, ltb-true, ltb-false, le-leb}
+use Rattle.model.specs.Agreements.{outcome_text, kept_text}
+use Rattle.std.specs.Prelude.{Result, Ok, Err}
+use Rattle.std.proofs.lemmas.Result.{IfOk-at_ok}
 use Rattle.model.specs.declared.Kind.{Kind}
 use Rattle.model.specs.declared.Kind.TheVariants.{Traced, Untraced}
 use Rattle.model.specs.declared.Refusal.{Refusal}
@@ -23,7 +26,7 @@ use Rattle.model.specs.Objects.{address, index, field_count, names}
 use Rattle.model.specs.Sessions.{machine}
 use Rattle.model.specs.Shape.{bad_length, bad_shape}
 use Rattle.model.specs.Values.{is_code, in_range, untag}
-use Rattle.model.specs.Window.{window}
+use Rattle.model.specs.Window.{window, place}
 use Rattle.model.specs.Words.{State}
 use Rattle.demands.proofs.CallsPass.{fails_test}
 use Rattle.theory.proofs.Deciding.{shape_decides, names_decides}
@@ -38,34 +41,31 @@ use Rattle.theory.proofs.WordSorts.{code_parts}
 
 -- ---- the window
 
-object-at : (i j : Index) (n m : ℕ) → Place.Object i n ≡ Place.Object j m → (i ≡ j) × (n ≡ m)
-object-at i j n m e = (cc, cc)
-
-refused-object : (k : Refusal) (i : Index) (n : ℕ) → Place.Refused k ≡ Place.Object i n → ⊥
-refused-object k i n e = let z : ◌≡◌ {A = ℕ} 0 1 = cc in omega arith
+object-at : (p : Place) (i : Index) (n : ℕ) → ◌≡◌ {A = Result Place Refusal} (Ok p) (Ok (place i n)) → (p.header ≡ i) × (p.count ≡ n)
+object-at p i n e = (cc, cc)
 
 -- a window that is open is on an object that is named, in a heap of good shape
-window_open : (Y : Layout) (r : ℕ) (s : State) (i : Index) (n : ℕ) → window Y r s ≡ Place.Object i n
+window_open : (Y : Layout) (r : ℕ) (s : State) (i : Index) (n : ℕ) → window Y r s ≡ Ok (place i n)
     → (bad_shape s ≡ false) × (names Y s (root_word s r) ≡ true) × (record { 0 = index Y (root_word s r) } ≡ i)
     × (field_count Y s.heap (index Y (root_word s r)) ≡ n)
 unfolding window
 window_open Y r s i n e =
     ⊎_elim
-    (λ (a : bad_shape s ≡ true). absurd (refused-object Why.Shape i n (rw a at e)))
+    (λ (a : bad_shape s ≡ true). absurd (IfOk-at_ok (λ p. ⊥) {r = Err Why.Shape} (rw a at e) tt))
     (λ (a : bad_shape s ≡ false).
     ⊎_elim
-    (λ (b : no_root s r ≡ true). absurd (refused-object Why.Root i n (rw (a, b) at e)))
+    (λ (b : no_root s r ≡ true). absurd (IfOk-at_ok (λ p. ⊥) {r = Err Why.Root} (rw (a, b) at e) tt))
     (λ (b : no_root s r ≡ false).
     ⊎_elim
     (λ (c : names Y s (root_word s r) ≡ true).
-    let o = object-at (record { 0 = index Y (root_word s r) }) i (field_count Y s.heap (index Y (root_word s r))) n (rw (a, b, c) at e) in
+    let o = object-at (place (record { 0 = index Y (root_word s r) }) (field_count Y s.heap (index Y (root_word s r)))) i n (rw (a, b, c) at e) in
     (a, c, o.0, o.1))
-    (λ (c : names Y s (root_word s r) ≡ false). absurd (refused-object Why.Object i n (rw (a, b, c) at e)))
+    (λ (c : names Y s (root_word s r) ≡ false). absurd (IfOk-at_ok (λ p. ⊥) {r = Err Why.Object} (rw (a, b, c) at e) tt))
     (by_test (names Y s (root_word s r))))
     (by_test (no_root s r)))
     (by_test (bad_shape s))
 
-shows : (Y : Layout) (r : ℕ) (s : State) (i : Index) (n : ℕ) → window Y r s ≡ Place.Object i n → Law.Shows Y s r i n
+shows : (Y : Layout) (r : ℕ) (s : State) (i : Index) (n : ℕ) → window Y r s ≡ Ok (place i n) → Law.Shows Y s r i n
 shows Y r s i n e =
     let o = window_open Y r s i n e in
     let h = shaped s o.0 in
@@ -167,8 +167,18 @@ keeps_lengths Y = record {
 
 pub settles : Law.Settles
 settles o a b H H' R R' T T' e f =
-    let g : Law.settled a H R T ≡ Law.settled b H' R' T' = e ∙ sym f in (
+    let g : outcome_text a H R T ≡ outcome_text b H' R' T' = e ∙ sym f in (
       λ i. record { answer = ap (λ z. z.answer) g i; «record» = ap (λ z. z.left.«record») g i },
+      ap (λ z. z.left.heap) g,
+      ap (λ z. z.left.roots) g,
+      ap (λ z. z.left.text) g,
+    )
+
+pub kept_settles : Law.KeptSettles
+kept_settles o a b q q' H H' R R' T T' e f =
+    let g : kept_text a H R q T ≡ kept_text b H' R' q' T' = e ∙ sym f in (
+      ap (λ z. z.answer) g,
+      ap (λ z. z.left.«record») g,
       ap (λ z. z.left.heap) g,
       ap (λ z. z.left.roots) g,
       ap (λ z. z.left.text) g,

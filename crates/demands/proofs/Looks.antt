@@ -9,6 +9,7 @@ use lib.Dec.{leb}
 use lib.ListN.{length, set, take, drop, length-take, length-drop}
 use lib.Seq.{get_or-set_same, get_or-set_other, get_or-take, get_or-drop, ext_get_or}
 use borrow.Author.Tests.{leb-false}
+use Rattle.std.specs.Prelude.{Result, Ok, Err}
 use Rattle.model.specs.declared.Kind.{Kind}
 use Rattle.model.specs.declared.Kind.TheVariants.{Traced, Untraced}
 use Rattle.model.specs.declared.Refusal.{Refusal}
@@ -19,7 +20,7 @@ use Rattle.model.specs.declared.Call.{Call}
 use Rattle.model.specs.declared.Call.TheVariants as Ask
 use Rattle.model.specs.declared.Place.{Place}
 use Rattle.model.specs.Admission.{no_roots, on_roots}
-use Rattle.model.specs.Answers.{Outcome, says, refuse}
+use Rattle.model.specs.Answers.{Outcome, refuse}
 use Rattle.model.specs.Calls as Calls
 use Rattle.model.specs.Calls.{is_of_kind, on_field}
 use Rattle.model.specs.Changes.{root_word, placed, planted}
@@ -48,7 +49,8 @@ use Rattle.theory.proofs.Soundness.{SoundTests}
 use Rattle.theory.proofs.Tests.{same?}
 
 -- outcomes that differ in their heaps at most
-but_heap : {a : Answer} {s : State} {H : List ℕ} → L.Alike (says a (with_heap H s)) (says a s)
+but_heap : {a : Result Answer Refusal} {s : State} {H : List ℕ}
+    → L.Alike (record { answer = a; left = with_heap H s }) (record { answer = a; left = s })
 but_heap = record { answer = refl; roots = refl; «record» = refl; text = refl }
 
 same_alike : {o : Outcome State} → L.Alike o o
@@ -108,9 +110,11 @@ module _ (Y : Layout) (s : State) (H : List ℕ) (len : length H ≡ length s.he
     unfolding window
     same-window = rw (same_shape, same_names, same_count)
 
-    shown-same : (p : Place) → window Y r s ≡ p → shown H p ≡ shown s.heap p
-    shown-same (Place.Refused k) e = refl
-    shown-same (Place.Object j n) e =
+    shown-same : (p : Result Place Refusal) → window Y r s ≡ p → shown H p ≡ shown s.heap p
+    shown-same (Err k) e = refl
+    shown-same (Ok p) e =
+        let j = p.header in
+        let n = p.count in
         let w = (window_law Y).shows r s j n e in
         let a = length-take n (drop (j.0 + 1) s.heap) in
         let a' = length-take n (drop (j.0 + 1) H) in
@@ -143,7 +147,7 @@ module _ (Y : Layout) (s : State) (H : List ℕ) (len : length H ≡ length s.he
       roots_alike (r ∷ from ∷ []) _ _ (field_alike r g Traced f _ _ (λ l. but_heap))
   sees (Ask.RawRead r f) g =
       roots_alike (r ∷ []) _ _
-      (field_alike r g Untraced f _ _ (λ l. record { answer = ap Says.Number (g.fields f l); roots = refl; «record» = refl; text = refl }))
+      (field_alike r g Untraced f _ _ (λ l. record { answer = ap (λ w. Ok (Says.Number w)) (g.fields f l); roots = refl; «record» = refl; text = refl }))
   sees (Ask.RawWrite r f x) g =
       roots_alike (r ∷ []) _ _ (field_alike r g Untraced f _ _ (λ l. but_heap))
   sees (Ask.Inspect r) g =

@@ -8,6 +8,7 @@ use mathlib.Core.List.{List}
 use lib.ListN.{length}
 use lib.Seq.{ext_get_or}
 use borrow.Author.Tests.{eqb-true, not-false}
+use Rattle.std.specs.Prelude.{Result, Ok}
 use Rattle.model.specs.declared.Kind.{Kind}
 use Rattle.model.specs.declared.Refusal.{Refusal}
 use Rattle.model.specs.declared.Refusal.TheVariants as Why
@@ -162,8 +163,8 @@ module _ (Y : Layout) where
     both_done o o' P one d d' = same_outcome o o' (d.0 ∙ sym d'.0) (one o.left o'.left d.1 d'.1)
 
     -- the same answer, and everything as it was
-    both_say : (o o' : Outcome State) (s : State) (a : Answer) → o.answer ≡ a → o'.answer ≡ a → o.left ≡ s → o'.left ≡ s
-        → o ≡ o'
+    both_say : (o o' : Outcome State) (s : State) (a : Result Answer Refusal) → o.answer ≡ a → o'.answer ≡ a → o.left ≡ s
+        → o'.left ≡ s → o ≡ o'
     both_say o o' s a e e' l l' = same_outcome o o' (e ∙ sym e') (l ∙ sym l')
 
     -- refused alike
@@ -187,7 +188,7 @@ module _ (Y : Layout) where
         let w = root_word s r in
         let o = M.step (Ask.Inspect r) s in
         let o' = N.step (Ask.Inspect r) s in
-        let say : (a : Answer) → o.answer ≡ a → o'.answer ≡ a → o ≡ o' =
+        let say : (a : Result Answer Refusal) → o.answer ≡ a → o'.answer ≡ a → o ≡ o' =
         λ a e e'. both_say o o' s a e e' (x.inspect_leaves r s p) (y.inspect_leaves r s p) in
         ⊎_elim
         (λ (a : is_odd w ≡ true).
@@ -218,7 +219,7 @@ module _ (Y : Layout) where
         let h = shaped s (fails_test (shape_decides s) p.0) in
         let e : x.0 ≡ y.0 = one-text Y s h x.1 y.1 in
         same_outcome (M.step (Ask.Write r) s) (N.step (Ask.Write r) s)
-        (x.2 ∙ ap (λ bs. Says.Written (length bs)) e ∙ sym y.2)
+        (x.2 ∙ ap (λ bs. Ok (Says.Written (length bs))) e ∙ sym y.2)
         (one_written s y.0 _ _ (subst (λ bs. E.TextWritten s bs (M.step (Ask.Write r) s).left) e x.3) y.3)
 
     read_same : (r : ℕ) (s : State) (t : Tree) → E.Passes Y (Ask.Read r) s → IsText s.text t
@@ -241,7 +242,7 @@ module _ (Y : Layout) where
         let b = n.two s ok in
         let z = no_choice Y s _ _ a.counts b.counts a.leaves b.leaves in
         same_outcome (M.step Ask.Collect s) (N.step Ask.Collect s)
-        (a.answers ∙ ap Says.Live z.1 ∙ sym b.answers) z.0
+        (a.answers ∙ ap (λ n. Ok (Says.Live n)) z.1 ∙ sym b.answers) z.0
 
     passed-same : (c : Call) (s : State) → E.Passes Y c s → M.step c s ≡ N.step c s
     passed-same Ask.Collect s p = collect-same s p
@@ -251,11 +252,11 @@ module _ (Y : Layout) where
         ⊎_elim
         (λ (e : sound Y s ≡ true).
         let h = (sound_decides Y s).holds e in
-        both_say _ _ s Says.Sound ((x.check_sound s p).1 h) ((y.check_sound s p).1 h) (x.check_leaves s p)
+        both_say _ _ s (Ok Says.Sound) ((x.check_sound s p).1 h) ((y.check_sound s p).1 h) (x.check_leaves s p)
         (y.check_leaves s p))
         (λ (e : sound Y s ≡ false).
         let h = (sound_decides Y s).fails e in
-        both_say _ _ s Says.Unsound ((x.check_unsound s p).1 h) ((y.check_unsound s p).1 h) (x.check_leaves s p)
+        both_say _ _ s (Ok Says.Unsound) ((x.check_unsound s p).1 h) ((y.check_unsound s p).1 h) (x.check_leaves s p)
         (y.check_leaves s p))
         (by_test (sound Y s))
     passed-same (Ask.Write r) s p = write_same r s p
@@ -292,10 +293,10 @@ module _ (Y : Layout) where
         let y = n.effects in
         ⊎_elim
         (λ (e : root_word s r ≡ root_word s q).
-        both_say _ _ s Says.Yes ((x.same_yes r q s p).1 e) ((y.same_yes r q s p).1 e) (x.same_leaves r q s p)
+        both_say _ _ s (Ok Says.Yes) ((x.same_yes r q s p).1 e) ((y.same_yes r q s p).1 e) (x.same_leaves r q s p)
         (y.same_leaves r q s p))
         (λ (e : root_word s r ≡ root_word s q → ⊥).
-        both_say _ _ s Says.No ((x.same_no r q s p).1 e) ((y.same_no r q s p).1 e) (x.same_leaves r q s p)
+        both_say _ _ s (Ok Says.No) ((x.same_no r q s p).1 e) ((y.same_no r q s p).1 e) (x.same_leaves r q s p)
         (y.same_leaves r q s p))
         (same? (root_word s r) (root_word s q))
     passed-same (Ask.Inspect r) s p = inspect-same r s p

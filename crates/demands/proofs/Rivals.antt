@@ -9,6 +9,7 @@ use mathlib.Core.List.{List, [], ◌∷◌, ◌++◌, map, Memᴰ}
 use mathlib.Core.Option.{Option, none, some}
 use lib.Dec.{ltb, eqb}
 use lib.ListN.{length, get_or, replicate}
+use Rattle.std.specs.Prelude.{Result, Ok}
 use Rattle.model.specs.declared.Half.TheVariants.{A}
 use Rattle.model.specs.declared.Kind.TheVariants.{Traced}
 use Rattle.model.specs.declared.Call.{Call}
@@ -17,9 +18,10 @@ use Rattle.model.specs.declared.Counts.{Counts}
 use Rattle.model.specs.declared.Answer.{Answer}
 use Rattle.model.specs.declared.Answer.TheVariants as Says
 use Rattle.model.specs.declared.Call.TheVariants as Ask
+use Rattle.model.specs.declared.Refusal.{Refusal}
 use Rattle.model.specs.Limits.{max_roots}
 use Rattle.model.specs.Calls as Calls
-use Rattle.model.specs.Answers.{Outcome, says, refuse, told}
+use Rattle.model.specs.Answers.{Outcome, says, refuse, told, refused}
 use Rattle.model.specs.Calls.{fresh, fresh_record}
 use Rattle.model.specs.Changes.{fits, placed}
 use Rattle.model.specs.Collection.{addresses_in, cells, word_leads, cell_leads, order_at, order, live, addresses_among, counts}
@@ -38,6 +40,7 @@ use Rattle.model.specs.Shape.{bad_shape_of, bad_shape}
 use Rattle.model.specs.Soundness.{all, tiles, headers_from, headers, is_value, fields_are_values, sound}
 use Rattle.model.specs.Words.{State, state_of, half_words, first_of, first_word, free}
 use Rattle.model.specs.Worked as Worked
+use Rattle.demands.proofs.CallsPass.{same-answer}
 use Rattle.demands.proofs.Conditions.{roots_decide}
 use Rattle.theory.proofs.Deciding.{shape_decides, sound_decides}
 use Rattle.theory.proofs.Shape.{Shaped, unshaped}
@@ -47,6 +50,10 @@ use Rattle.theory.proofs.Values.{some_same}
 -- a machine that changes what the library's comes to
 abbrev pub changed : (Call → State → Outcome State → Outcome State) → Machine
 changed f = record { fresh = fresh; step = λ c s. f c s (step tuple c s) }
+
+-- the same answer, and something else left
+abbrev pub but_left : Outcome State → State → Outcome State
+but_left o s = record { answer = o.answer; left = s }
 
 -- calls told apart by what a wrong machine does with them
 pub data Sort : Type 0 where
@@ -91,14 +98,14 @@ number others = 8
 abbrev pub is : Sort → Call → Bool
 is k c = eqb (number (sort c)) (number k)
 
-abbrev pub is_refusal : Answer → Bool
+abbrev pub is_refusal : Result Answer Refusal → Bool
 is_refusal a = ltb 0 (told a).refusal
 
 -- ---- demand 1
 
 -- refuses everything
 abbrev pub refuses_all : Machine
-refuses_all = changed (λ c s o. says (Says.Refused Why.Shape) s)
+refuses_all = changed (λ c s o. refused Why.Shape s)
 
 check-refused : (s : State) → bad_shape s ≡ false → D1.First (Row.rows tuple Ask.Check s) Why.Shape → ⊥
 check-refused s e (inl a) = (shape_decides s).fails e a.0
@@ -160,13 +167,13 @@ pub made_up_breaks_2 : D.Demand2 tuple made_up → ⊥
 unfolding tuple counts live order_at found visits visit mem packed word_leads
 made_up_breaks_2 d =
     let z = d p5 p5-sound in
-    let a : 5 ≡ z.counts.live = ap (λ (x : Answer). (told x).value) z.answers in
+    let a : 5 ≡ z.counts.live = ap (λ x. (told x).value) z.answers in
     let b : z.counts.live ≡ 4 = z.leaves.live (order tuple p5) z.leaves.lists in
     omega arith
 
 -- moves nothing
 abbrev pub moves_nothing : Machine
-moves_nothing = changed (λ c s o. says o.answer s)
+moves_nothing = changed (λ c s o. but_left o s)
 
 pub moves_nothing_breaks_2 : D.Demand2 tuple moves_nothing → ⊥
 moves_nothing_breaks_2 d =
@@ -182,7 +189,7 @@ deep (suc n) s o (some i ∷ ls) =
     cond (mem i o) (deep n s o ls) (deep n s (o ++ (i ∷ [])) (map (cell_leads tuple) (cells tuple s.heap i) ++ ls))
 
 abbrev pub depth_first : Machine
-depth_first = changed (λ c s o. says o.answer (copied tuple (deep 20 s [] (map (word_leads tuple) s.roots)) s))
+depth_first = changed (λ c s o. but_left o (copied tuple (deep 20 s [] (map (word_leads tuple) s.roots)) s))
 
 pub depth-first_breaks_2 : D.Demand2 tuple depth_first → ⊥
 unfolding tuple deep copied rename headers_from order_at found visits visit mem packed words_before word_leads
@@ -216,11 +223,11 @@ unfolding replies step Calls.collect refuse sound bad_shape_of
 keeps-words_breaks_3 d = d.fresh_never_damaged (three_words 7 0 (omega arith)) (alone Ask.Collect ∷ []) (Memᴰ.head refl)
 
 -- answers each of which is something else than "no room"
-pub no_room_lem : (l : List Answer) → all (λ a. not (D3.is_no_room a)) l ≡ true → Memᴰ D3.no_room l → ⊥
+pub no_room_lem : (l : List (Result Answer Refusal)) → all (λ a. not (D3.is_no_room a)) l ≡ true → Memᴰ D3.no_room l → ⊥
 no_room_lem [] e m = Memᴰ.not-nil m
 no_room_lem (a ∷ l) e m =
     let t = and_both (not (D3.is_no_room a)) (all (λ x. not (D3.is_no_room x)) l) e in
-    ⊎_elim (λ (q : D3.no_room ≡ a). never (ap (λ (x : Answer). not (D3.is_no_room x)) q ∙ t.0) refl) (λ x. no_room_lem l t.1 x)
+    ⊎_elim (λ (q : D3.no_room ≡ a). never (ap (λ x. not (D3.is_no_room x)) q ∙ t.0) refl) (λ x. no_room_lem l t.1 x)
     (Memᴰ.cases_cons m)
 
 -- answers "done" to everything
@@ -233,9 +240,9 @@ done-null e = let z : ◌≡◌ {A = ℕ} 0 1 = cc in omega arith
 pub constant_breaks_3 : D3.Demand3 tuple constant → ⊥
 unfolding replies graph_replies graph_step refuse inspected
 constant_breaks_3 d =
-    done-null (ap (λ (l : List Reply). (get_or l 0 (record { answer = Says.Done; text = [] })).answer)
+    done-null (same-answer Says.Done Says.Null (ap (λ (l : List Reply). (get_or l 0 (record { answer = Ok Says.Done; text = [] })).answer)
     (d.fresh_answers (three_words 0 1 (omega arith)) (three_words 0 1 (omega arith)) refl (omega arith) (alone (Ask.Inspect 0) ∷ []) 1
-    (no_room_lem (Says.Done ∷ []) refl)).1)
+    (no_room_lem (Ok Says.Done ∷ []) refl)).1))
 
 -- what a collection would count if every object were reachable
 abbrev pub all_used : State → Counts
@@ -252,7 +259,7 @@ in_b s = eqb (first_of 1 s.«record».half) 2
 
 unfoldable pub pretends : Call → State → Outcome State → Outcome State
 pretends Ask.Collect s o = says (Says.Live (all_used s)) s
-pretends (Ask.Allocate k n r) s o = cond (fits (n + 1) s) o (says (Says.Refused Why.Room) s)
+pretends (Ask.Allocate k n r) s o = cond (fits (n + 1) s) o (refused Why.Room s)
 pretends Ask.Check s o = o
 pretends (Ask.SetInteger r v) s o = o
 pretends (Ask.SetNull r) s o = o

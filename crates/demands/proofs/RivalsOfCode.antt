@@ -7,12 +7,13 @@ use mathlib.Core.Bool.{true, false, cond, ◌&&◌}
 use mathlib.Core.List.{List, [], ◌∷◌, map}
 use lib.Dec.{eqb}
 use lib.ListN.{length, replicate}
+use Rattle.std.specs.Prelude.{Ok}
 use Rattle.model.specs.declared.Half.TheVariants.{A}
 use Rattle.model.specs.declared.Call.TheVariants as Ask
 use Rattle.model.specs.declared.Refusal.TheVariants as Why
 use Rattle.model.specs.declared.Answer.{Answer}
 use Rattle.model.specs.declared.Answer.TheVariants as Says
-use Rattle.model.specs.Answers.{says, refuse, told}
+use Rattle.model.specs.Answers.{says, refuse, told, refused}
 use Rattle.model.specs.Calls as Calls
 use Rattle.model.specs.Changes.{with_root}
 use Rattle.model.specs.Collection.{copied, rename, word_leads, order_at}
@@ -31,10 +32,11 @@ use Rattle.model.specs.Soundness.{tiles, headers_from, is_value, fields_are_valu
 use Rattle.model.specs.Values.{is_code}
 use Rattle.model.specs.Words.{State, with_roots, half_words}
 use Rattle.model.specs.Worked as Worked
+use Rattle.demands.proofs.CallsPass.{same-answer}
 use Rattle.demands.proofs.Conditions.{roots_decide, code_decides}
 use Rattle.theory.proofs.Deciding.{shape_decides, sound_decides}
-use Rattle.theory.proofs.PlainAnswers.{done_plainly}
-use Rattle.demands.proofs.Rivals.{changed, is, collects, sets_code, inspects}
+use Rattle.theory.proofs.PlainAnswers.{plainly}
+use Rattle.demands.proofs.Rivals.{changed, but_left, is, collects, sets_code, inspects}
 use Rattle.theory.proofs.Shape.{Shaped, unshaped}
 use Rattle.theory.proofs.Tests.{never}
 
@@ -46,7 +48,7 @@ holding w = Worked.state A 1 (replicate 3 0) (w ∷ [])
 
 -- inspect gives OBJECT for a code word, as before document 02
 abbrev pub refuses_code : Machine
-refuses_code = changed (λ c s o. cond (is inspects c && eqb (told o.answer).holds 4) (says (Says.Refused Why.Object) s) o)
+refuses_code = changed (λ c s o. cond (is inspects c && eqb (told o.answer).holds 4) (refused Why.Object s) o)
 
 floor_refused : D1.First (Row.rows tuple (Ask.Inspect 0) (holding code_floor)) Why.Object → ⊥
 unfolding bad_shape_of
@@ -66,7 +68,7 @@ takes_any_word = changed (λ c s o. cond (is sets_code c && eqb (told o.answer).
 takes : (w : ℕ) → is_code w ≡ false → D1.Demand1 tuple takes_any_word → ⊥
 unfolding step refuse Calls.set_code bad_shape_of
 takes w e d =
-    done_plainly Why.Range (said ∙ ((d.session (Ask.SetCode 0 w) (holding 0)).exactly Why.Range).1
+    plainly Says.Done Why.Range (said ∙ ((d.session (Ask.SetCode 0 w) (holding 0)).exactly Why.Range).1
     (inr (
       (shape_decides (holding 0)).fails refl,
       inr (
@@ -75,7 +77,7 @@ takes w e d =
       ),
     )))
   where
-    said : Says.Done ≡ (takes_any_word.step (Ask.SetCode 0 w) (holding 0)).answer
+    said : Ok Says.Done ≡ (takes_any_word.step (Ask.SetCode 0 w) (holding 0)).answer
     said = rw e
 
 pub takes_odd_breaks_1 : D1.Demand1 tuple takes_any_word → ⊥
@@ -93,7 +95,7 @@ holding-sound = (sound_decides tuple (holding code_floor)).holds refl
 -- a collection makes something else of the code words in roots
 abbrev collects_to : (State → ℕ → ℕ) → Machine
 collects_to f = changed (λ c s o. cond (is collects c)
-    (says o.answer (with_roots (map (λ w. cond (is_code w) (f s w) w) o.left.roots) o.left)) o)
+    (but_left o (with_roots (map (λ w. cond (is_code w) (f s w) w) o.left.roots) o.left)) o)
 
 collects_to_lem : (f : State → ℕ → ℕ) → (f (holding code_floor) code_floor ≡ code_floor → ⊥) → D.Demand2 tuple (collects_to f) → ⊥
 unfolding tuple step refuse Calls.collect sound bad_shape_of tiles headers_from is_value fields_are_values mem
@@ -154,7 +156,7 @@ says_of_code a = changed (λ c s o. cond (is inspects c && eqb (told o.answer).h
 
 says_of_code_lem : (a : Answer) → (a ≡ Says.Code code_floor → ⊥) → E.Effects tuple (says_of_code a) → ⊥
 unfolding step refuse Calls.inspect bad_shape_of
-says_of_code_lem a n e = n (e.inspect_code 0 (holding code_floor) inspect_passes refl (omega arith))
+says_of_code_lem a n e = n (same-answer a (Says.Code code_floor) (e.inspect_code 0 (holding code_floor) inspect_passes refl (omega arith)))
 
 -- null; or a code word, and not which
 abbrev pub says_null : Machine

@@ -4,12 +4,14 @@ use native.Mathlib.Omega.{arith}
 use mathlib.Core.Path.{◌≡◌, refl, ap, ◌∙◌}
 use mathlib.Core.List.{List, [], ◌∷◌, map}
 use lib.ListN.{get_or, replicate}
+use Rattle.std.specs.Prelude.{Result, Ok}
 use Rattle.model.specs.declared.Half.TheVariants.{A}
 use Rattle.model.specs.declared.Kind.TheVariants.{Traced}
 use Rattle.model.specs.declared.Counts.{Counts}
 use Rattle.model.specs.declared.Answer.{Answer}
 use Rattle.model.specs.declared.Answer.TheVariants as Says
 use Rattle.model.specs.declared.Call.TheVariants as Ask
+use Rattle.model.specs.declared.Refusal.{Refusal}
 use Rattle.model.specs.Answers.{told}
 use Rattle.model.specs.Calls.{fresh_record}
 use Rattle.model.specs.Collection.{order, addresses_among, counts}
@@ -22,6 +24,7 @@ use Rattle.model.specs.Sessions.{Machine, Asked, Reply, alone}
 use Rattle.model.specs.Words.{State}
 use Rattle.model.specs.Worked as Worked
 use Rattle.model.specs.Worked.{ran}
+use Rattle.demands.proofs.CallsPass.{same-answer}
 use Rattle.demands.proofs.Rivals.{miscounts, p5, p5-sound, no_room_lem, all_used}
 
 -- ---- the machines: L and one of the other two numbers are right
@@ -80,13 +83,13 @@ objects-at-p5 : (f : State → Counts → ℕ) → D.Demand2 tuple (miscounts (i
 unfolding ran
 objects-at-p5 f d =
     let z = d p5 p5-sound in
-    ap (λ (a : Answer). (told a).objects) z.answers ∙ z.leaves.objects (order tuple p5) z.leaves.lists
+    ap (λ a. (told a).objects) z.answers ∙ z.leaves.objects (order tuple p5) z.leaves.lists
 
 addresses-at-p5 : (f : State → Counts → ℕ) → D.Demand2 tuple (miscounts (in_addresses f)) → f p5 (counts tuple p5) ≡ 3
 unfolding ran
 addresses-at-p5 f d =
     let z = d p5 p5-sound in
-    ap (λ (a : Answer). (told a).addresses) z.answers ∙ z.leaves.addresses (order tuple p5) z.leaves.lists
+    ap (λ a. (told a).addresses) z.answers ∙ z.leaves.addresses (order tuple p5) z.leaves.lists
 
 pub counts-objects-twice_breaks_2 : D.Demand2 tuple counts_objects_twice → ⊥
 unfolding ran
@@ -128,39 +131,39 @@ abbrev before : ℕ → State
 before w = Worked.state A 3 (0 ∷ 2 ∷ 4 ∷ 0 ∷ 0 ∷ []) (w ∷ [])
 
 -- the answer of reply k
-abbrev reply : ℕ → List Reply → Answer
-reply k l = (get_or l k (record { answer = Says.Done; text = [] })).answer
+abbrev reply : ℕ → List Reply → Result Answer Refusal
+reply k l = (get_or l k (record { answer = Ok Says.Done; text = [] })).answer
 
 module _ (f : State → Counts → Counts) (d : D3.Demand3 tuple (miscounts f)) where
   -- the graph counts one object, and its address twice; or nothing
   held-answers : Says.Live (f (before 4) (counts tuple (before 4))) ≡ Says.Live (record { live = 2; objects = 1; addresses = 2 })
   unfolding ran graph_replies graph_step on_object graph_counts graph_order total_words objects_in objects_among
   held-answers =
-      ap (reply 2) (d.fresh_answers five_words five_words refl (omega arith) held 3
-      (no_room_lem (Says.Done ∷ Says.Done ∷ Says.Live _ ∷ []) refl)).1
+      same-answer _ _ (ap (reply 2) (d.fresh_answers five_words five_words refl (omega arith) held 3
+      (no_room_lem (Ok Says.Done ∷ Ok Says.Done ∷ Ok (Says.Live _) ∷ []) refl)).1)
 
   dropped_answers : Says.Live (f (before 0) (counts tuple (before 0))) ≡ Says.Live (record { live = 0; objects = 0; addresses = 0 })
   unfolding ran graph_replies graph_step on_object graph_counts graph_order total_words objects_in objects_among
   dropped_answers =
-      ap (reply 3) (d.fresh_answers five_words five_words refl (omega arith) dropped 4
-      (no_room_lem (Says.Done ∷ Says.Done ∷ Says.Done ∷ Says.Live _ ∷ []) refl)).1
+      same-answer _ _ (ap (reply 3) (d.fresh_answers five_words five_words refl (omega arith) dropped 4
+      (no_room_lem (Ok Says.Done ∷ Ok Says.Done ∷ Ok Says.Done ∷ Ok (Says.Live _) ∷ []) refl)).1)
 
 pub counts-objects-twice_breaks_3 : D3.Demand3 tuple counts_objects_twice → ⊥
 unfolding ran
 counts-objects-twice_breaks_3 d =
-    let e : ◌≡◌ {A = ℕ} 2 1 = ap (λ (a : Answer). (told a).objects) (held-answers (in_objects twice) d) in omega arith
+    let e : ◌≡◌ {A = ℕ} 2 1 = ap (λ a. (told (Ok a)).objects) (held-answers (in_objects twice) d) in omega arith
 
 pub counts-headers_breaks_3 : D3.Demand3 tuple counts_headers → ⊥
 unfolding ran
 counts-headers_breaks_3 d =
-    let e : ◌≡◌ {A = ℕ} 1 0 = ap (λ (a : Answer). (told a).objects) (dropped_answers (in_objects headers_used) d) in omega arith
+    let e : ◌≡◌ {A = ℕ} 1 0 = ap (λ a. (told (Ok a)).objects) (dropped_answers (in_objects headers_used) d) in omega arith
 
 pub forgets_roots_breaks_3 : D3.Demand3 tuple forgets_roots → ⊥
 unfolding ran
 forgets_roots_breaks_3 d =
-    let e : ◌≡◌ {A = ℕ} 1 2 = ap (λ (a : Answer). (told a).addresses) (held-answers (in_addresses in_fields) d) in omega arith
+    let e : ◌≡◌ {A = ℕ} 1 2 = ap (λ a. (told (Ok a)).addresses) (held-answers (in_addresses in_fields) d) in omega arith
 
 pub counts_garbage_breaks_3 : D3.Demand3 tuple counts_garbage → ⊥
 unfolding ran
 counts_garbage_breaks_3 d =
-    let e : ◌≡◌ {A = ℕ} 1 0 = ap (λ (a : Answer). (told a).addresses) (dropped_answers (in_addresses addresses_used) d) in omega arith
+    let e : ◌≡◌ {A = ℕ} 1 0 = ap (λ a. (told (Ok a)).addresses) (dropped_answers (in_addresses addresses_used) d) in omega arith

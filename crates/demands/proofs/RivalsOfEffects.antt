@@ -22,9 +22,10 @@ use Rattle.model.specs.Shape.{bad_length, bad_shape_of, bad_shape}
 use Rattle.model.specs.Soundness.{tiles, headers_from, is_value, fields_are_values, sound}
 use Rattle.model.specs.Words.{State, state_of, with_heap, with_record, with_free, half_words, first_of, free}
 use Rattle.model.specs.Worked as Worked
+use Rattle.demands.proofs.CallsPass.{same-answer}
 use Rattle.demands.proofs.Conditions.{roots_decide}
 use Rattle.theory.proofs.Deciding.{length_decides, shape_decides}
-use Rattle.demands.proofs.Rivals.{changed, collects, checks, is, is_refusal, p5}
+use Rattle.demands.proofs.Rivals.{changed, but_left, collects, checks, is, is_refusal, p5}
 
 -- a heap of good shape, in which nothing refuses a check
 check_passes : (s : State) → bad_shape s ≡ false → E.Passes tuple Ask.Check s
@@ -33,7 +34,7 @@ check_passes s e = ((shape_decides s).fails e, ((roots_decide s []).fails refl, 
 -- ---- restless: it collects once more after every call that is not refused and is no collect
 
 abbrev pub restless : Machine
-restless = changed (λ c s o. cond (is collects c || is_refusal o.answer) o (says o.answer (collected tuple o.left)))
+restless = changed (λ c s o. cond (is collects c || is_refusal o.answer) o (but_left o (collected tuple o.left)))
 
 pub restless_breaks_check_leaves : E.Effects tuple restless → ⊥
 unfolding tuple step refuse Calls.check bad_shape_of sound tiles headers_from is_value fields_are_values mem copied
@@ -50,7 +51,7 @@ restless_breaks_record_stays e =
 -- ---- forgetful: where it refuses, it leaves the record of an empty heap
 
 abbrev pub forgetful : Machine
-forgetful = changed (λ c s o. cond (is_refusal o.answer) (says o.answer (with_record Calls.fresh_record o.left)) o)
+forgetful = changed (λ c s o. cond (is_refusal o.answer) (but_left o (with_record Calls.fresh_record o.left)) o)
 
 pub forgetful_breaks_record_stays : RecordStays forgetful → ⊥
 unfolding tuple step refuse Calls.set_null bad_shape_of
@@ -116,4 +117,4 @@ no_done e = let z : ◌≡◌ {A = ℕ} 0 1 = cc in omega arith
 
 pub fresh_says_no_breaks_fresh : E.Effects tuple fresh_says_no → ⊥
 unfolding refuse
-fresh_says_no_breaks_fresh e = no_done (e.fresh seven ((length_decides seven).fails refl)).0
+fresh_says_no_breaks_fresh e = no_done (same-answer Says.No Says.Done (e.fresh seven ((length_decides seven).fails refl)).0)

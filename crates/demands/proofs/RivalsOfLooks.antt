@@ -31,6 +31,7 @@ use Rattle.model.specs.Values.{is_address}
 use Rattle.model.specs.Words.{State, at, free}
 use Rattle.model.specs.Worked as Worked
 use Rattle.theory.proofs.Deciding.{sound_decides}
+use Rattle.demands.proofs.CallsPass.{same-answer}
 use Rattle.demands.proofs.Integers.{tag-odd}
 use Rattle.theory.proofs.PlainAnswers.{no_yes}
 use Rattle.demands.proofs.Rivals.{changed, is, checks, compares, loads}
@@ -47,7 +48,7 @@ abbrev blank3 : State
 blank3 = Worked.state A 1 (replicate 3 0) (0 ∷ [])
 
 pub same_by_word_1_breaks_sees : L.Looks tuple same_by_word1 → ⊥
-same_by_word_1_breaks_sees l = no_yes (l.sees (Ask.Same 0 0) blank3 (0 ∷ 5 ∷ 0 ∷ []) refl tt).answer
+same_by_word_1_breaks_sees l = no_yes (same-answer Says.No Says.Yes (l.sees (Ask.Same 0 0) blank3 (0 ∷ 5 ∷ 0 ∷ []) refl tt).answer)
 
 -- ---- load takes a raw word for a value: root 0 names an untraced object, whose one word is x
 
@@ -130,4 +131,4 @@ done-unsound e = let z : ◌≡◌ {A = ℕ} 0 1 = cc in omega arith
 
 pub hushed_breaks_told-apart : Law.ToldApart hushed → ⊥
 unfolding tuple step refuse Calls.check bad_shape_of sound
-hushed_breaks_told-apart t = done-unsound (t.session Ask.Check (word0 7) (word0 8) refl)
+hushed_breaks_told-apart t = done-unsound (same-answer Says.Done Says.Unsound (t.session Ask.Check (word0 7) (word0 8) refl))

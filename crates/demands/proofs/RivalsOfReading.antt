@@ -7,12 +7,13 @@ use mathlib.Core.List.{List, [], ◌∷◌}
 use lib.Dec.{eqb}
 use lib.IntN.{pos}
 use lib.ListN.{length, replicate, set}
+use Rattle.std.specs.Prelude.{Ok, Err}
 use Rattle.model.specs.declared.Refusal.{Refusal}
 use Rattle.model.specs.declared.Refusal.TheVariants as Why
 use Rattle.model.specs.declared.Answer.TheVariants as Says
 use Rattle.model.specs.declared.Call.{Call}
 use Rattle.model.specs.declared.Call.TheVariants as Ask
-use Rattle.model.specs.Answers.{says, number, told}
+use Rattle.model.specs.Answers.{says, number, told, refused}
 use Rattle.model.specs.Conditions as C
 use Rattle.model.specs.Demand1 as D1
 use Rattle.model.specs.Effects as E
@@ -27,9 +28,9 @@ use Rattle.model.specs.Words.{State, with_heap, with_roots, with_text, at}
 use Rattle.model.specs.Worked.{ran, p5_with}
 use Rattle.theory.proofs.Deciding.{shape_decides}
 use Rattle.demands.proofs.Demand1.{demand1}
-use Rattle.theory.proofs.PlainAnswers.{refused-same, done_plainly}
+use Rattle.theory.proofs.PlainAnswers.{refused-same, plainly}
 use Rattle.theory.proofs.ReadJudged.{parsed-text}
-use Rattle.demands.proofs.Rivals.{changed, reads, is}
+use Rattle.demands.proofs.Rivals.{changed, but_left, reads, is}
 use Rattle.demands.proofs.TextsWritable.{accepts_exactly}
 
 -- S = 8, half A empty, one null root; and a text
@@ -39,8 +40,8 @@ lent t = with_text t (holding [] 0)
 -- ---- demand 1
 
 -- a machine that meets it refuses what this one does
-refuses_too : (M : Machine) → D1.Demand1 tuple M → (c : Call) (s : State) (k : Refusal) → (step tuple c s).answer ≡ Says.Refused k
-    → (M.step c s).answer ≡ Says.Refused k
+refuses_too : (M : Machine) → D1.Demand1 tuple M → (c : Call) (s : State) (k : Refusal) → (step tuple c s).answer ≡ Err k
+    → (M.step c s).answer ≡ Err k
 refuses_too M d c s k e = ((d.session c s).exactly k).1 ((((demand1 tuple).session c s).exactly k).0 e)
 
 -- says "done" to a text and a blank
@@ -49,11 +50,11 @@ ignores_tail = changed (λ c s o. cond (is reads c && eqb (at s.text 1) 32) (say
 
 pub ignores_tail_breaks_1 : D1.Demand1 tuple ignores_tail → ⊥
 unfolding ran
-ignores_tail_breaks_1 d = done_plainly Why.Value (refuses_too ignores_tail d (Ask.Read 0) (lent (55 ∷ 32 ∷ [])) Why.Value refl)
+ignores_tail_breaks_1 d = plainly Says.Done Why.Value (refuses_too ignores_tail d (Ask.Read 0) (lent (55 ∷ 32 ∷ [])) Why.Value refl)
 
 -- counts what is open before it looks at the bytes
 abbrev pub deep_first : Machine
-deep_first = changed (λ c s o. cond (is reads c && eqb (length s.text) 66) (says (Says.Refused Why.Deep) s) o)
+deep_first = changed (λ c s o. cond (is reads c && eqb (length s.text) 66) (refused Why.Deep s) o)
 
 pub deep-first_breaks_1 : D1.Demand1 tuple deep_first → ⊥
 unfolding ran
@@ -64,8 +65,8 @@ deep-first_breaks_1 d =
 
 -- ---- what a read does
 
-read_done : (to : ℕ) (s : State) → (step tuple (Ask.Read to) s).answer ≡ Says.Done → E.Passes tuple (Ask.Read to) s
-read_done to s a = ((demand1 tuple).session (Ask.Read to) s).none.0 (λ k e. done_plainly k (sym a ∙ e))
+read_done : (to : ℕ) (s : State) → (step tuple (Ask.Read to) s).answer ≡ Ok Says.Done → E.Passes tuple (Ask.Read to) s
+read_done to s a = ((demand1 tuple).session (Ask.Read to) s).none.0 (λ k e. plainly Says.Done k (sym a ∙ e))
 
 seven_passes : E.Passes tuple (Ask.Read 0) (lent (55 ∷ []))
 unfolding ran
@@ -77,7 +78,7 @@ seven_text = parsed-text (55 ∷ []) (leaf (pos 7)) refl
 
 -- puts 0 into the root, whatever it reads
 abbrev pub reads_zero : Machine
-reads_zero = changed (λ c s o. cond (is reads c) (says o.answer (with_roots (1 ∷ []) o.left)) o)
+reads_zero = changed (λ c s o. cond (is reads c) (but_left o (with_roots (1 ∷ []) o.left)) o)
 
 pub reads-zero_breaks_read : E.Effects tuple reads_zero → ⊥
 unfolding ran
@@ -103,7 +104,7 @@ units_text = parsed-text two_units two_units_tree refl
 
 -- equal tuples share one object
 abbrev pub shares_tuples : Machine
-shares_tuples = changed (λ c s o. cond (is reads c) (says o.answer (with_heap (set o.left.heap 3 (at o.left.heap 2)) o.left)) o)
+shares_tuples = changed (λ c s o. cond (is reads c) (but_left o (with_heap (set o.left.heap 3 (at o.left.heap 2)) o.left)) o)
 
 pub shares_tuples_breaks_read : E.Effects tuple shares_tuples → ⊥
 unfolding ran
@@ -125,16 +126,13 @@ reads-zero_breaks_round_trip x =
 
 -- says "done", and leaves the root as it was
 abbrev pub leaves_root : Machine
-leaves_root = changed (λ c s o. cond (is reads c) (says o.answer s) o)
+leaves_root = changed (λ c s o. cond (is reads c) (but_left o s) o)
 
 pub leaves-root_breaks_round_trip : RoundTrip leaves_root → ⊥
 unfolding ran
 leaves-root_breaks_round_trip x =
     let w = x 0 (lent (55 ∷ [])) (46 ∷ []) refl (omega arith) in
-    null_unwritten w.0
-  where
-    null_unwritten : Says.Refused Why.Value ≡ Says.Written 1 → ⊥
-    null_unwritten e = let z : ◌≡◌ {A = ℕ} 0 1 = cc in omega arith
+    plainly (Says.Written 1) Why.Value (sym w.0)
 
 -- ---- what a read does after a collection
 
@@ -186,16 +184,16 @@ pub accepts_all_breaks_exactly : AcceptsExactly accepts_all → ⊥
 unfolding ran
 accepts_all_breaks_exactly x =
     let s = lent (126 ∷ 48 ∷ []) in
-    let w = (x 0 s (not-bad (126 ∷ 48 ∷ [])) (omega arith)).0 (done_plainly Why.Value, done_plainly Why.Deep) in
+    let w = (x 0 s (not-bad (126 ∷ 48 ∷ [])) (omega arith)).0 (plainly Says.Done Why.Value, plainly Says.Done Why.Deep) in
     ((accepts_exactly 0 s (not-bad (126 ∷ 48 ∷ [])) (omega arith)).1 w).0 refl
 
 -- has no text for the tuple of no fields
 abbrev pub refuses_unit : Machine
-refuses_unit = changed (λ c s o. cond (is reads c && eqb (at s.text 1) 41) (says (Says.Refused Why.Value) s) o)
+refuses_unit = changed (λ c s o. cond (is reads c && eqb (at s.text 1) 41) (refused Why.Value s) o)
 
 pub refuses_unit_breaks_exactly : AcceptsExactly refuses_unit → ⊥
 unfolding ran
 refuses_unit_breaks_exactly x =
     let s = lent (40 ∷ 41 ∷ []) in
-    let w = (accepts_exactly 0 s (not-bad (40 ∷ 41 ∷ [])) (omega arith)).0 (done_plainly Why.Value, done_plainly Why.Deep) in
+    let w = (accepts_exactly 0 s (not-bad (40 ∷ 41 ∷ [])) (omega arith)).0 (plainly Says.Done Why.Value, plainly Says.Done Why.Deep) in
     ((x 0 s (not-bad (40 ∷ 41 ∷ [])) (omega arith)).1 w).0 refl

@@ -8,8 +8,7 @@ use lib.Dec.{ltb, eqb}
 use lib.ListN.{length, get_or, replicate}
 use borrow.Author.Tests.{ltb-true}
 use Rattle.model.specs.declared.Half.TheVariants.{A, B}
-use Rattle.model.specs.declared.Answer.{Answer}
-use Rattle.model.specs.Answers.{says, told}
+use Rattle.model.specs.Answers.{told}
 use Rattle.model.specs.Collection.{Cell, still, value, build, filled, cells, order, rename, settle, copied, collected}
 use Rattle.model.specs.Conditions.{Sound}
 use Rattle.model.specs.Demand3.{OfWords}
@@ -30,7 +29,7 @@ use Rattle.theory.proofs.Keeping.{tile}
 use Rattle.theory.proofs.Members.{place}
 use Rattle.theory.proofs.Tests.{and_both}
 use Rattle.demands.proofs.CallCollect.{collect_represents}
-use Rattle.demands.proofs.Rivals.{changed, is, collects, p5, p5-sound}
+use Rattle.demands.proofs.Rivals.{changed, but_left, is, collects, p5, p5-sound}
 use Rattle.demands.proofs.RivalsOfCounts.{counts_headers}
 use Rattle.demands.proofs.Standing.{value_of, sound_represents}
 
@@ -38,7 +37,7 @@ use Rattle.demands.proofs.Standing.{value_of, sound_represents}
 
 -- a machine that leaves something else of a collection, and answers right
 abbrev leaving : (State → State) → Machine
-leaving f = changed (λ c s o. cond (is collects c) (says o.answer (f s)) o)
+leaving f = changed (λ c s o. cond (is collects c) (but_left o (f s)) o)
 
 -- the numbers of a list that are in another, last first
 abbrev backwards : List ℕ → List ℕ → List ℕ
@@ -79,7 +78,7 @@ pub counts-headers_breaks_settling : Settling tuple counts_headers → ⊥
 unfolding ran
 counts-headers_breaks_settling d =
     let x = d p5 p5-sound in
-    let e : ◌≡◌ {A = ℕ} 3 2 = ap (λ (a : Answer). (told a).objects) (x.first ∙ sym x.second) in omega arith
+    let e : ◌≡◌ {A = ℕ} 3 2 = ap (λ a. (told a).objects) (x.first ∙ sym x.second) in omega arith
 
 -- ---- P5 and what its collection leaves stand for one graph
 

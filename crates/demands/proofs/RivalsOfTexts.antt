@@ -8,11 +8,11 @@ use mathlib.Core.List.{List, [], ◌∷◌}
 use lib.Dec.{eqb}
 use lib.IntN.{pos}
 use lib.ListN.{length, get_or, set, replicate}
-use Rattle.model.specs.declared.Refusal.{Refusal}
+use Rattle.std.specs.Prelude.{Ok}
 use Rattle.model.specs.declared.Refusal.TheVariants as Why
 use Rattle.model.specs.declared.Answer.TheVariants as Says
 use Rattle.model.specs.declared.Call.TheVariants as Ask
-use Rattle.model.specs.Answers.{says, number, told}
+use Rattle.model.specs.Answers.{says, number, told, refused}
 use Rattle.model.specs.Calls as Calls
 use Rattle.model.specs.Demand1 as D1
 use Rattle.model.specs.Demand3 as D3
@@ -27,10 +27,12 @@ use Rattle.model.specs.TextFaults as T
 use Rattle.model.specs.Texts.{max_depth, broken}
 use Rattle.model.specs.Words.{State, with_text, at}
 use Rattle.model.specs.Worked.{ran, p5_with}
+use Rattle.demands.proofs.CallsPass.{same-answer}
 use Rattle.demands.proofs.Conditions.{roots_decide}
 use Rattle.theory.proofs.Deciding.{shape_decides}
 use Rattle.demands.proofs.Demand1.{demand1}
-use Rattle.demands.proofs.Rivals.{changed, writes, is, three_words, no_room_lem}
+use Rattle.theory.proofs.PlainAnswers.{plainly}
+use Rattle.demands.proofs.Rivals.{changed, but_left, writes, is, three_words, no_room_lem}
 use Rattle.theory.proofs.Shape.{Shaped, shaped}
 use Rattle.demands.proofs.TextFaults.{one-text, pieces_text}
 use Rattle.demands.proofs.TextJudged.{broken-row}
@@ -39,7 +41,7 @@ use Rattle.demands.proofs.TextJudged.{broken-row}
 
 -- says TEXT before it looks at the value that stands where the bytes run out
 abbrev pub text_first : Machine
-text_first = changed (λ c s o. cond (is writes c && eqb (length s.text) 0) (says (Says.Refused Why.Text) s) o)
+text_first = changed (λ c s o. cond (is writes c && eqb (length s.text) 0) (refused Why.Text s) o)
 
 -- a null root, and no bytes
 abbrev null_root : State
@@ -83,12 +85,9 @@ unfolding bad_shape_of
 deep-row =
     inr ((shape_decides self_held).fails refl, inr ((roots_decide self_held (1 ∷ [])).fails refl, broken-row tuple self_held self_shaped 1 Why.Deep self_deep))
 
-written-refused : (n : ℕ) (k : Refusal) → Says.Written n ≡ Says.Refused k → ⊥
-written-refused n k e = let z : ◌≡◌ {A = ℕ} 0 1 = cc in omega arith
-
 pub never_deep_breaks_1 : D1.Demand1 tuple never_deep → ⊥
 unfolding ran
-never_deep_breaks_1 d = written-refused 0 Why.Deep (((d.session (Ask.Write 1) self_held).exactly Why.Deep).1 deep-row)
+never_deep_breaks_1 d = plainly (Says.Written 0) Why.Deep (((d.session (Ask.Write 1) self_held).exactly Why.Deep).1 deep-row)
 
 -- ---- what a write does
 
@@ -98,20 +97,20 @@ unit_root = with_text (dots 5) (p5_with 24 12)
 
 unit_passes : E.Passes tuple (Ask.Write 0) unit_root
 unfolding ran
-unit_passes = ((demand1 tuple).session (Ask.Write 0) unit_root).none.0 (λ k e. written-refused 2 k e)
+unit_passes = ((demand1 tuple).session (Ask.Write 0) unit_root).none.0 (plainly (Says.Written 2))
 
 written_same : (m n : ℕ) → Says.Written m ≡ Says.Written n → m ≡ n
 written_same m n e = cc
 
 -- writes one byte past the text
 abbrev pub one_past : Machine
-one_past = changed (λ c s o. cond (is writes c) (says o.answer (with_text (set o.left.text 2 33) o.left)) o)
+one_past = changed (λ c s o. cond (is writes c) (but_left o (with_text (set o.left.text 2 33) o.left)) o)
 
 pub one-past_breaks_write : E.Effects tuple one_past → ⊥
 unfolding ran
 one-past_breaks_write x =
     let w = x.write 0 unit_root unit_passes in
-    let n : 2 ≡ length w.0 = written_same 2 (length w.0) w.2 in
+    let n : 2 ≡ length w.0 = written_same 2 (length w.0) (same-answer _ _ w.2) in
     let b : ◌≡◌ {A = ℕ} 33 46 = w.3.others 2 (omega arith) in
     omega arith
 
@@ -130,7 +129,7 @@ unit_text = pieces_text tuple unit_root unit_shaped max_depth 24 (40 ∷ 41 ∷ 
 pub answers-room_breaks_write : E.Effects tuple answers_room → ⊥
 answers-room_breaks_write x =
     let w = x.write 0 unit_root unit_passes in
-    let n : 5 ≡ length w.0 = written_same 5 (length w.0) w.2 in
+    let n : 5 ≡ length w.0 = written_same 5 (length w.0) (same-answer _ _ w.2) in
     let e = one-text tuple unit_root unit_shaped w.1 unit_text in
     let l = ap length e in
     omega arith
@@ -142,23 +141,23 @@ abbrev seven_written : List Asked
 seven_written = alone (Ask.SetInteger 0 (pos 7)) ∷ record { call = Ask.Write 0; text = 46 ∷ [] } ∷ []
 
 abbrev second_byte : List Reply → ℕ
-second_byte l = at (get_or l 1 (record { answer = Says.Done; text = [] })).text 0
+second_byte l = at (get_or l 1 (record { answer = Ok Says.Done; text = [] })).text 0
 
 -- answers the length and leaves the bytes as they were
 abbrev pub leaves_bytes : Machine
-leaves_bytes = changed (λ c s o. says o.answer (with_text s.text o.left))
+leaves_bytes = changed (λ c s o. but_left o (with_text s.text o.left))
 
 pub leaves-bytes_breaks_3 : D3.Demand3 tuple leaves_bytes → ⊥
 unfolding ran graph_replies graph_step
 leaves-bytes_breaks_3 d =
     let b : ◌≡◌ {A = ℕ} 46 55 =
     ap second_byte (d.fresh_answers (three_words 0 1 (omega arith)) (three_words 0 1 (omega arith)) refl (omega arith) seven_written 2
-    (no_room_lem (Says.Done ∷ Says.Written 1 ∷ []) refl)).1 in
+    (no_room_lem (Ok Says.Done ∷ Ok (Says.Written 1) ∷ []) refl)).1 in
     omega arith
 
 -- a call that is no write clears the bytes that it is lent
 abbrev pub clears_bytes : Machine
-clears_bytes = changed (λ c s o. cond (is writes c) o (says o.answer (with_text (replicate (length s.text) 0) o.left)))
+clears_bytes = changed (λ c s o. cond (is writes c) o (but_left o (with_text (replicate (length s.text) 0) o.left)))
 
 abbrev checked_lent : List Asked
 checked_lent = alone Ask.Check ∷ record { call = Ask.Check; text = 46 ∷ [] } ∷ []
@@ -168,5 +167,5 @@ unfolding ran graph_replies graph_step
 clears_bytes_breaks_3 d =
     let b : ◌≡◌ {A = ℕ} 0 46 =
     ap second_byte (d.fresh_answers (three_words 0 1 (omega arith)) (three_words 0 1 (omega arith)) refl (omega arith) checked_lent 2
-    (no_room_lem (Says.Sound ∷ Says.Sound ∷ []) refl)).1 in
+    (no_room_lem (Ok Says.Sound ∷ Ok Says.Sound ∷ []) refl)).1 in
     omega arith

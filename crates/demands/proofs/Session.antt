@@ -9,6 +9,7 @@ use mathlib.Core.List.Memᴰ
 use mathlib.Core.List.{List, [], ◌∷◌, Memᴰ}
 use lib.Dec.{eqb}
 use lib.ListN.{length, take}
+use Rattle.std.specs.Prelude.{Result, Ok, Err}
 use Rattle.model.specs.declared.Kind.TheVariants.{Traced, Untraced}
 use Rattle.model.specs.declared.Refusal.{Refusal}
 use Rattle.model.specs.declared.Answer.{Answer}
@@ -30,7 +31,7 @@ use Rattle.model.specs.Words.{State, with_text, half_words_of, half_words}
 use Rattle.demands.proofs.CallAllocate.{allocate-is, allocation_legal, allocate_agrees}
 use Rattle.demands.proofs.CallRead.{read-tree, read_legal, read_agrees}
 use Rattle.demands.proofs.Room.{roomed_exactly, Full}
-use Rattle.theory.proofs.PlainAnswers.{refused-same, done_plainly}
+use Rattle.theory.proofs.PlainAnswers.{refused-same, plainly}
 use Rattle.demands.proofs.CallCollect.{live_same, collect_agrees}
 use Rattle.demands.proofs.CallsOnFields.{load_agrees, store_agrees, raw_read_agrees, raw_write_agrees}
 use Rattle.demands.proofs.GraphAnswers.{graph_refuses, graph-room}
@@ -63,21 +64,21 @@ refusal-room Why.Value e = never e refl
 refusal-room Why.Deep e = never e refl
 refusal-room Why.Text e = never e refl
 
-pub is_no_room_lem : (a : Answer) → D3.is_no_room a ≡ true → a ≡ D3.no_room
-is_no_room_lem Says.Done e = never e refl
-is_no_room_lem (Says.Live n) e = never e refl
-is_no_room_lem Says.Sound e = never e refl
-is_no_room_lem Says.Unsound e = never e refl
-is_no_room_lem Says.Yes e = never e refl
-is_no_room_lem Says.No e = never e refl
-is_no_room_lem Says.Null e = never e refl
-is_no_room_lem (Says.Integer v) e = never e refl
-is_no_room_lem (Says.Object Traced n) e = never e refl
-is_no_room_lem (Says.Object Untraced n) e = never e refl
-is_no_room_lem (Says.Code w) e = never e refl
-is_no_room_lem (Says.Number w) e = never e refl
-is_no_room_lem (Says.Written n) e = never e refl
-is_no_room_lem (Says.Refused k) e = ap Says.Refused (refusal-room k e)
+pub is_no_room_lem : (a : Result Answer Refusal) → D3.is_no_room a ≡ true → a ≡ D3.no_room
+is_no_room_lem (Ok Says.Done) e = never e refl
+is_no_room_lem (Ok (Says.Live n)) e = never e refl
+is_no_room_lem (Ok Says.Sound) e = never e refl
+is_no_room_lem (Ok Says.Unsound) e = never e refl
+is_no_room_lem (Ok Says.Yes) e = never e refl
+is_no_room_lem (Ok Says.No) e = never e refl
+is_no_room_lem (Ok Says.Null) e = never e refl
+is_no_room_lem (Ok (Says.Integer v)) e = never e refl
+is_no_room_lem (Ok (Says.Object Traced n)) e = never e refl
+is_no_room_lem (Ok (Says.Object Untraced n)) e = never e refl
+is_no_room_lem (Ok (Says.Code w)) e = never e refl
+is_no_room_lem (Ok (Says.Number w)) e = never e refl
+is_no_room_lem (Ok (Says.Written n)) e = never e refl
+is_no_room_lem (Err k) e = ap Err (refusal-room k e)
 
 module _ (Y : Layout) (law : WritesBoth Y) (near : Adjacent Y) where
   -- every call: "no room", or heap and graph agree
@@ -114,7 +115,7 @@ module _ (Y : Layout) (law : WritesBoth Y) (near : Adjacent Y) where
       ∙ (roomed_exactly Y (tree_words t) (planted Y t r) s (parts m)).1 (omega (arith, live_same Y near s g m))
 
   pub step_exceeds : (c : Call) (s : State) (g : Graph) → Represents Y s g → (n : ℕ) → D3.needed c s.text ≡ some n
-      → ((k : Refusal) → (graph_step c g).answer ≡ Says.Refused k → ⊥)
+      → ((k : Refusal) → (graph_step c g).answer ≡ Err k → ⊥)
       → half_words s.heap < (graph_counts g).live + n → (step Y c s).answer ≡ D3.no_room
   step_exceeds (Ask.Allocate k f r) s g m n w a u =
       let l = allocation_legal k f r g a in
@@ -145,7 +146,7 @@ module _ (Y : Layout) (law : WritesBoth Y) (near : Adjacent Y) where
       ⊎_elim
       (λ (u : Full Y c s⁺ g (step Y c s⁺)).
       step_exceeds c s g m u.words (ap (D3.needed c) (m.text ∙ sym m⁺.text) ∙ u.needs)
-      (λ k x. done_plainly k (sym u.carried ∙ x)) (let z = u.exceed in omega arith))
+      (λ k x. plainly Says.Done k (sym u.carried ∙ x)) (let z = u.exceed in omega arith))
       (λ (a : Agrees Y (step Y c s⁺) (graph_step c g)). absurd (graph-room c g (sym a.0 ∙ e)))
       (step-goes c s⁺ g m⁺)
 
@@ -229,7 +230,7 @@ module _ (Y : Layout) (law : WritesBoth Y) (near : Adjacent Y) where
   -- and its answers are the graph's or "no room": none is SHAPE or DAMAGED
   pub session_refuses : (cs : List Asked) (s : State) (g : Graph) → Stands s g → (k : Refusal) → (k ≡ Why.Room → ⊥)
       → of_graph k ≡ false
-      → Memᴰ (Says.Refused k) (answers (machine Y) cs s) → ⊥
+      → Memᴰ (Err k) (answers (machine Y) cs s) → ⊥
   unfolding replies
   session_refuses [] s g m k n o x = Memᴰ.not-nil x
   session_refuses (c ∷ cs) s g m k n o x =
@@ -237,14 +238,14 @@ module _ (Y : Layout) (law : WritesBoth Y) (near : Adjacent Y) where
       ⊎_elim
       (λ (u : Full Y c.call (with_text c.text s) (graph_with_text c.text g) (asked (machine Y) c s)).
       ⊎_elim
-      (λ (e : Says.Refused k ≡ t.answer). n (refused-same k Why.Room (e ∙ u.answers)))
-      (λ (y : Memᴰ (Says.Refused k) (answers (machine Y) cs t.left)).
+      (λ (e : Err k ≡ t.answer). n (refused-same k Why.Room (e ∙ u.answers)))
+      (λ (y : Memᴰ (Err k) (answers (machine Y) cs t.left)).
       session_refuses cs t.left g (text_represents Y t.left (graph_with_text c.text g) u.stands []) k n o y)
       (Memᴰ.cases_cons x))
       (λ (a : Agrees Y (asked (machine Y) c s) (graph_asked c g)).
       ⊎_elim
-      (λ (e : Says.Refused k ≡ t.answer). never (graph_refuses c.call (graph_with_text c.text g) k (sym (e ∙ a.0))) o)
-      (λ (y : Memᴰ (Says.Refused k) (answers (machine Y) cs t.left)).
+      (λ (e : Err k ≡ t.answer). never (graph_refuses c.call (graph_with_text c.text g) k (sym (e ∙ a.0))) o)
+      (λ (y : Memᴰ (Err k) (answers (machine Y) cs t.left)).
       session_refuses cs t.left (graph_asked c g).left (handed_back a) k n o y)
       (Memᴰ.cases_cons x))
       (asked-goes c s g m)

@@ -7,6 +7,7 @@ use mathlib.Core.Bool.{true, false}
 use mathlib.Core.List.{List, map, map-map}
 use mathlib.Core.Option.{some}
 use lib.ListN.{length, get_or, length-map}
+use Rattle.std.specs.Prelude.{Ok}
 use Rattle.model.specs.declared.Half.{Half}
 use Rattle.model.specs.declared.Half.TheVariants.{A, B}
 use Rattle.model.specs.declared.Answer.TheVariants as Says
@@ -233,10 +234,10 @@ module _ (Y : Layout) (near : Adjacent Y) (s : State) (h : SoundTests Y s) where
     first = ap (λ o. o.answer) (collect-sound Y s h);
     second =
         ap (λ z. (step Y Ask.Collect z).answer) once_is ∙ ap (λ o. o.answer) (collect-sound Y s₁ h₁)
-        ∙ ap Says.Live (counts_new Y near s h);
+        ∙ ap (λ n. Ok (Says.Live n)) (counts_new Y near s h);
     third =
         ap (λ z. (step Y Ask.Collect z).answer) twice-is ∙ ap (λ o. o.answer) (collect-sound Y s₂ h₂)
-        ∙ ap Says.Live (counts_new Y near s₁ h₁ ∙ counts_new Y near s h);
+        ∙ ap (λ n. Ok (Says.Live n)) (counts_new Y near s₁ h₁ ∙ counts_new Y near s h);
   }
 
 pub settling : (Y : Layout) → Adjacent Y → Settling Y (machine Y)

@@ -5,6 +5,7 @@ use mathlib.Core.Path.{◌≡◌, refl, sym, ap, ◌∙◌, subst}
 use mathlib.Core.List.{List, [], ◌∷◌}
 use lib.ListN.{length, drop, get_or-append}
 use lib.Seq.{get_or-drop, get_or-append-add}
+use Rattle.std.specs.Prelude.{Ok}
 use Rattle.model.specs.declared.Answer.TheVariants as Says
 use Rattle.model.specs.declared.Call.TheVariants as Ask
 use Rattle.model.specs.Answers.{Outcome}
@@ -43,7 +44,7 @@ text-written s bs l = record {
 -- the text of a word, an answer of its length, and what is left
 abbrev Written : Layout → ℕ → State → Outcome State → Type 0
 Written Y r s o =
-    (bs : List ℕ) × HasText Y s max_depth (root_word s r) bs × (o.answer ≡ Says.Written (length bs)) × E.TextWritten s bs o.left
+    (bs : List ℕ) × HasText Y s max_depth (root_word s r) bs × (o.answer ≡ Ok (Says.Written (length bs))) × E.TextWritten s bs o.left
 
 pub writes-text : (Y : Layout) (s : State) (r : ℕ) → E.Passes Y (Ask.Write r) s → Written Y r s (step Y (Ask.Write r) s)
 unfolding step Calls.write

@@ -9,6 +9,7 @@ use mathlib.Core.List.{List, [], ◌∷◌, ◌++◌, map}
 use lib.Dec.{leb}
 use lib.ListN.{length, get_or, length-append, get_or-append}
 use lib.Seq.{get_or-append-add}
+use Rattle.std.specs.Prelude.{Err}
 use Rattle.model.specs.declared.Refusal.{Refusal}
 use Rattle.model.specs.declared.Refusal.TheVariants as Why
 use Rattle.model.specs.declared.Answer.TheVariants as Says
@@ -33,7 +34,7 @@ use Rattle.model.specs.Trees.{Forest, end, leaf_then, node_then, Tree, leaf, nod
 use Rattle.model.specs.Trees.{ForestFits, TreeFits}
 use Rattle.model.specs.Words.{State}
 use Rattle.demands.proofs.CallsPass.{past-roots}
-use Rattle.theory.proofs.PlainAnswers.{refused-same, done_plainly}
+use Rattle.theory.proofs.PlainAnswers.{refused-same, plainly}
 use Rattle.theory.proofs.ReadJudged.{first-read-fault, parsed-text, text-parsed}
 use Rattle.theory.proofs.Tests.{by_test}
 use Rattle.demands.proofs.TextPlaces.{spelt, no_fault, spelt-same, enclosed-spelt, spelt-enclosed}
@@ -222,18 +223,18 @@ tree_writable t bs i = by t i.spelled i.fits
 
 -- a text that is a tree's gets neither VALUE nor DEEP
 room_refuses : (Y : Layout) (n : ℕ) (change : State → State) (s : State) (k : Refusal)
-    → (Calls.with_room Y n change s).answer ≡ Says.Refused k → (Why.Damaged ≡ k) ⊎ (Why.Room ≡ k)
+    → (Calls.with_room Y n change s).answer ≡ Err k → (Why.Damaged ≡ k) ⊎ (Why.Room ≡ k)
 unfolding refuse
 room_refuses Y n change s k =
     ⊎_elim
-    (λ (a : leb n (spare s) ≡ true). rw a (λ e. absurd (done_plainly k e)))
+    (λ (a : leb n (spare s) ≡ true). rw a (λ e. absurd (plainly Says.Done k e)))
     (λ (a : leb n (spare s) ≡ false).
     rw a
     (⊎_elim
     (λ (b : sound Y s ≡ true).
     rw b
     (⊎_elim
-    (λ (c : leb n (spare (collected Y s)) ≡ true). rw c (λ e. absurd (done_plainly k e)))
+    (λ (c : leb n (spare (collected Y s)) ≡ true). rw c (λ e. absurd (plainly Says.Done k e)))
     (λ (c : leb n (spare (collected Y s)) ≡ false). rw c (λ e. inr (refused-same Why.Room k e)))
     (by_test (leb n (spare (collected Y s))))))
     (λ (b : sound Y s ≡ false). rw b (λ e. inl (refused-same Why.Damaged k e)))
@@ -252,7 +253,7 @@ module _ (to : ℕ) (s : State) (h : C.BadShape s → ⊥) (l : to < length s.ro
           ⊎_elim (λ (e : n.0 ≡ to). let z = n.2 in omega arith) (λ m. Memᴰ.not-nil m) (Memᴰ.cases_cons n.1)
 
   abbrev Refuses : Refusal → Type 0
-  Refuses k = (step tuple (Ask.Read to) s).answer ≡ Says.Refused k
+  Refuses k = (step tuple (Ask.Read to) s).answer ≡ Err k
 
   accepted : (Refuses Why.Value → ⊥) → (Refuses Why.Deep → ⊥) → Writable s.text
   accepted a b = by (parsed s.text) refl

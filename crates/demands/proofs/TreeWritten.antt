@@ -6,6 +6,7 @@ use mathlib.Core.Logic.{⊎_elim}
 use mathlib.Core.List.{List, [], ◌∷◌, map}
 use lib.ListN.{length, get_or, length-append}
 use lib.IntN.{ℤ}
+use Rattle.std.specs.Prelude.{Ok}
 use Rattle.model.specs.declared.Half.{Half}
 use Rattle.model.specs.declared.Kind.TheVariants.{Traced}
 use Rattle.model.specs.declared.Answer.TheVariants as Says
@@ -36,7 +37,7 @@ use Rattle.theory.proofs.Headers.{tuple_lawful, tuple_adjacent}
 use Rattle.demands.proofs.Integers.{tag-odd, untag-tag}
 use Rattle.theory.proofs.Laying.{laid_end}
 use Rattle.theory.proofs.Objects.{index-address, address_below}
-use Rattle.theory.proofs.PlainAnswers.{done_plainly}
+use Rattle.theory.proofs.PlainAnswers.{plainly}
 use Rattle.theory.proofs.Shape.{Shaped, first_in, unshaped}
 use Rattle.theory.proofs.Tests.{decide}
 use Rattle.demands.proofs.TextFaults.{text_pieces}
@@ -137,7 +138,7 @@ module _ (Y : Layout) (law : WritesBoth Y) (near : Adjacent Y) (u : State) (h : 
   bytes_whole (suc n) (b ∷ bs) l = ap (behind b) (bytes_whole n bs (omega arith))
 
   written : (r : ℕ) (bs : List ℕ) → r < length u.roots → T.HasText Y u max_depth (root_word u r) bs → length bs ≤ length u.text
-      → ((step Y (Ask.Write r) u).answer ≡ Says.Written (length bs)) × E.TextWritten u bs (step Y (Ask.Write r) u).left
+      → ((step Y (Ask.Write r) u).answer ≡ Ok (Says.Written (length bs))) × E.TextWritten u bs (step Y (Ask.Write r) u).left
   unfolding step Calls.write refuse
   written r bs l t room =
       rw (unshaped u h, lt-leb (length u.roots) r l, text_pieces Y u h t, bytes_whole (length u.text) bs room)
@@ -170,7 +171,7 @@ lent-shape Y t r s u bs h fit n =
 tree-written : (t : Tree) (r : ℕ) (s u : State) (bs lent : List ℕ) → Shaped s → r < length s.roots → tree_words t ≤ spare s
     → E.NewTree tuple t r s u → IsText bs t → length bs ≤ length lent
     → let v = with_text lent u in
-    ((step tuple (Ask.Write r) v).answer ≡ Says.Written (length bs)) × E.TextWritten v bs (step tuple (Ask.Write r) v).left
+    ((step tuple (Ask.Write r) v).answer ≡ Ok (Says.Written (length bs))) × E.TextWritten v bs (step tuple (Ask.Write r) v).left
 tree-written t r s u bs lent h l fit n i room =
     let v = with_text lent u in
     let k = lent-shape tuple t r s u lent h fit n in
@@ -181,7 +182,7 @@ tree-written t r s u bs lent h l fit n i room =
 
 pub round_trip : RoundTrip (machine tuple)
 round_trip to s lent a room =
-    let p : E.Passes tuple (Ask.Read to) s = ((demand1 tuple).session (Ask.Read to) s).none.0 (λ k e. done_plainly k (sym a ∙ e)) in
+    let p : E.Passes tuple (Ask.Read to) s = ((demand1 tuple).session (Ask.Read to) s).none.0 (λ k e. plainly Says.Done k (sym a ∙ e)) in
     let q = read-text tuple to s p in
     let t = q.0 in
     let i = q.1 in

@@ -4,102 +4,106 @@
 use allocator::allocate;
 use blind::{fresh, set_integer};
 use collector::collect;
-use model::{Answer, Half, Index, Kind, Record};
+use model::{Answer, Half, Index, Kind, Record, Refusal};
 use objects::store;
 use std::io;
 
-// A traced object of `fields` fields in root `to`, with the integer `value` in one of them, by way of root
-// `by`.
-fn build_one(
-    heap: &mut [u32],
-    roots: &mut [u32],
+// What each call is lent, and leaves to the next. S = 8.
+#[derive(Drop)]
+struct State {
+    heap: [u32; 17],
+    roots: [u32; 2],
     record: Record,
-    to: usize,
-    fields: usize,
-    field: usize,
-    by: usize,
-    value: i64,
-) -> Record {
-    let made = allocate(heap, roots, record, Kind::Traced, fields, to).record;
-    let set = set_integer(heap, roots, made, by, value).record;
-    store(heap, roots, set, to, field, by).record
 }
 
-// In a cleared heap, an object that holds 0, and one of two fields that holds 10 in its last.
-fn build_two(heap: &mut [u32], roots: &mut [u32]) -> Record {
-    let any = Record {
-        half: Half::A,
-        free: Index(1),
-    };
-    let start = fresh(heap, roots, any).record;
-    let one = build_one(heap, roots, start, 0, 1, 0, 1, 0);
-    build_one(heap, roots, one, 1, 2, 1, 0, 10)
-}
+impl State {
+    // An empty heap.
+    fn new() -> Self {
+        let any = Record {
+            half: Half::A,
+            free: Index(1),
+        };
+        let mut heap = [0; 17];
+        let roots = [0; 2];
+        let record = fresh(&mut heap, &roots, any).record;
+        State {
+            heap,
+            roots,
+            record,
+        }
+    }
 
-// P5: the second object names itself; an object with no fields takes the first one's root, so that nothing
-// names it.
-fn build(heap: &mut [u32], roots: &mut [u32]) -> Record {
-    let two = build_two(heap, roots);
-    let knot = store(heap, roots, two, 1, 0, 1).record;
-    allocate(heap, roots, knot, Kind::Traced, 0, 0).record
-}
+    // A traced object of `fields` fields, into root `to`.
+    fn allocate(&mut self, fields: usize, to: usize) -> Result<(), Refusal> {
+        let (heap, roots) = (&mut self.heap, &mut self.roots);
+        let done = allocate(heap, roots, self.record, Kind::Traced, fields, to);
+        self.record = done.record;
+        done.answer?;
+        Ok(())
+    }
 
-// The live words of an answer to collect.
-fn live_of(answer: Answer) -> u32 {
-    match answer {
-        Answer::Live(counts) => counts.live,
-        _ => 0,
+    // What root `from` holds, into a field of the object of root `object`.
+    fn store(&mut self, object: usize, field: usize, from: usize) -> Result<(), Refusal> {
+        store(
+            &mut self.heap,
+            &self.roots,
+            self.record,
+            object,
+            field,
+            from,
+        )?;
+        Ok(())
+    }
+
+    // The integer `value` there, by way of root `by`.
+    fn put(&mut self, object: usize, field: usize, by: usize, value: i64) -> Result<(), Refusal> {
+        set_integer(&self.heap, &mut self.roots, self.record, by, value)?;
+        self.store(object, field, by)
+    }
+
+    // P5: an object that holds 0, and one that names itself and holds 10; an object with no fields takes the
+    // first one's root, so that nothing names it.
+    fn build(&mut self) -> Result<(), Refusal> {
+        self.allocate(1, 0)?;
+        self.put(0, 0, 1, 0)?;
+        self.allocate(2, 1)?;
+        self.put(1, 1, 0, 10)?;
+        self.store(1, 0, 1)?;
+        self.allocate(0, 0)
+    }
+
+    // The live words of P5, collected.
+    fn collect(&mut self) -> Result<u32, Refusal> {
+        self.build()?;
+        let done = collect(&mut self.heap, &mut self.roots, self.record);
+        self.record = done.record;
+        match done.answer? {
+            Answer::Live(counts) => Ok(counts.live),
+            _ => Ok(0),
+        }
     }
 }
 
-// A number and a word, a line.
-fn line(rt: &impl Print, number: usize, word: u32) -> io::Result<()> {
-    show::index(rt, Index(number))?;
-    show::text(rt, b" ")?;
-    show::word(rt, word)?;
-    show::text(rt, b"\n")
-}
-
-// Each word from the half's first up to the free index, as far as the heap goes.
-fn words(rt: &impl Print, heap: &[u32], from: usize, end: usize) -> io::Result<()> {
-    let mut i = from;
-    while i < end {
-        if heap.len() <= i {
-            return Ok(());
-        }
-        line(rt, i, heap[i])?;
-        i += 1;
+// Each word of half B up to the free index.
+fn words(rt: &impl Print, state: &State) -> io::Result<()> {
+    let end = state.record.free.0;
+    for (index, word) in state.heap.iter().enumerate().take(end).skip(9) {
+        println!(rt; "{index} {word:08x}")?;
     }
     Ok(())
 }
 
 fn table(rt: &impl Print, roots: &[u32]) -> io::Result<()> {
-    let mut i: usize = 0;
-    while i < roots.len() {
-        show::text(rt, b"root ")?;
-        line(rt, i, roots[i])?;
-        i += 1;
+    for (root, word) in roots.iter().enumerate() {
+        println!(rt; "root {root} {word:08x}")?;
     }
     Ok(())
 }
 
-fn summary(rt: &impl Print, record: Record, live: u32) -> io::Result<()> {
-    show::record(rt, record)?;
-    show::text(rt, b" live ")?;
-    show::number(rt, live)?;
-    show::text(rt, b"\n")
-}
-
 fn main(rt: HostRuntime) -> io::Result<()> {
-    let mut lent = [0u32; 17];
-    let mut named = [0u32; 2];
-    let heap: &mut [u32] = &mut lent;
-    let roots: &mut [u32] = &mut named;
-    let start = build(heap, roots);
-    let done = collect(heap, roots, start);
-    let answer = done.answer;
-    let after = done.record;
-    summary(&rt, after, live_of(answer))?;
-    words(&rt, heap, 9, after.free.0)?;
-    table(&rt, roots)
+    let mut state = State::new();
+    let live = state.collect().unwrap_or(0);
+    println!(rt; "{} live {live}", state.record)?;
+    words(&rt, &state)?;
+    table(&rt, &state.roots)
 }

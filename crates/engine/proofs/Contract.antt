@@ -24,14 +24,14 @@ use Rattle.engine_moving.specs.Moving.{addresses_met}
 use Rattle.engine.specs.Evacuation.{Emptied, emptied, moved_to, evacuated, SafeEvacuation}
 use Rattle.engine.proofs.End.{safe, leaves, ended_is, free-is, objects-is, addresses-is}
 
-module _ (Y : Layout) (K : Marks Y) (s : State) (e : sound Y s ≡ true) where
+module _ {Y : Layout} (K : Marks Y) (s : State) (e : sound Y s ≡ true) where
   v : SoundTests Y s
   v = sound_parts Y s e
 
   pub shape : Shaped s
   shape = v.shape
 
-  module _ (S old new : ℕ) (half : Half) (h : S ≡ half_words s.heap) (i : half ≡ other s.«record».half)
+  module _ {S old new : ℕ} {half : Half} (h : S ≡ half_words s.heap) (i : half ≡ other s.«record».half)
       (o : old ≡ first_of S s.«record».half) (n : new ≡ first_of S half) where
     old_is : old ≡ first_word s
     old_is = first_by_length (length s.heap) s.«record».half o h
@@ -45,7 +45,7 @@ module _ (Y : Layout) (K : Marks Y) (s : State) (e : sound Y s ≡ true) where
     pub may_evacuate : SafeEvacuation Y s.heap s.roots old (free s - old) new
     may_evacuate = rw (old_is, new_is) (safe Y K s v)
 
-    module _ (h' rs' : List ℕ) (end : ℕ) (m : Tally)
+    module _ {h' rs' : List ℕ} {end : ℕ} {m : Tally}
         (q : emptied h' rs' end m ≡ evacuated Y s.heap s.roots old (free s - old) new) where
       there : emptied h' rs' end m ≡ leaves Y K s v
       there =
@@ -78,7 +78,7 @@ module _ (Y : Layout) (K : Marks Y) (s : State) (e : sound Y s ≡ true) where
       left x = with_free x end (with_roots rs' (with_heap h' s))
 
       -- from what the three numbers come to
-      module _ (live' objects' addresses' : ℕ) (l : live' ≡ end - new) (c : objects' ≡ m.copied)
+      module _ {live' objects' addresses' : ℕ} (l : live' ≡ end - new) (c : objects' ≡ m.copied)
           (a : addresses' ≡ addresses_met m) where
         numbers_are : record { live = live'; objects = objects'; addresses = addresses' } ≡ counts Y s
         unfolding counts

@@ -2,7 +2,7 @@
 use Prim.Native.Nat.{ℕ, suc, ◌+◌, ◌-◌, ◌<◌}
 use native.Mathlib.Numerals.{add-one}
 use native.Mathlib.Omega.{arith}
-use mathlib.Core.Path.{◌≡◌, refl, sym, ap, ◌∙◌, subst}
+use mathlib.Core.Path.{◌≡◌, refl, sym, ap, subst}
 use mathlib.Core.List.{List, ◌∷◌, ◌++◌, append-nil}
 use lib.ListN.{length, get_or, set, take, drop}
 use lib.Seq.{take-suc-set, drop-set-lt, drop-cons, append_snoc, drop-length, take-length}
@@ -12,7 +12,6 @@ use Rattle.engine_moving.specs.declared.Tally.{Tally}
 use Rattle.engine_moving.specs.Moving.{Left, none_met, counted, MayCount, renamed, MayRename}
 use Rattle.engine_scanning.specs.Scanning.{Sweep, swept, ended, between, run}
 use Rattle.engine.specs.Evacuation.{Emptied, emptied, root_first, rooted, SafeRoots, scanned, evacuated}
-use Rattle.engine_moving.proofs.MovingLaws.{renamed-length}
 
 -- what the roots before an index, done, and the outcome of the others make together
 abbrev pub joined : List ℕ → Emptied → Emptied
@@ -53,9 +52,6 @@ module _ (Y : Layout) where
     root-counts = here.1
 
     module _ (l : Left) (t' : Tally) (e : l ≡ renamed Y h (get_or rs i 0) f) (n : t' ≡ counted t l.met) where
-      pub root-length : length l.heap ≡ length h
-      root-length = ap (λ (l : Left). length l.heap) e ∙ renamed-length Y h (get_or rs i 0) f
-
       pub root-safe : SafeRoots Y l.heap (drop (i + 1) (set rs i l.word)) l.free t'
       root-safe =
           rw (n, add-one i, drop-set-lt (suc i) rs i l.word (omega arith))

@@ -7,14 +7,12 @@ ghost use Rattle.model.specs.Headers.{tuple};
 ghost use Rattle.model.specs.Words.{state_of};
 ghost use Rattle.model.specs.Soundness.{sound};
 ghost use Rattle.model.specs.Answers.{says};
-ghost use Rattle.model.specs.Agreements.{lent, leaves};
 ghost use Rattle.model.specs.declared.Answer.TheVariants as Says;
 ghost use Rattle.engine_moving.specs.Moving.{none_met};
 ghost use Rattle.engine.specs.Collecting.{collection};
 ghost use Rattle.engine.specs.Evacuation.{emptied, rooted, SafeRoots, evacuated, SafeEvacuation};
 
-use engine_moving::{Tally, count};
-use engine_scanning::Swept;
+use engine_moving::{Swept, Tally};
 use model::{Counts, Index, Record};
 use words::shape;
 
@@ -31,22 +29,16 @@ fn visit_roots(heap: &mut [u32], roots: &mut [u32], new: Index) -> Swept
     ensures { emptied heap.new roots.new result.free.0 result.tally
         ≡ rooted tuple heap.old roots.old new.0 none_met }
 {
-    let mut free = new;
-    let mut tally = Tally {
-        copied: 0,
-        found: 0,
+    let mut so_far = Swept {
+        free: new,
+        tally: Tally::default(),
     };
-    let mut i: usize = 0;
-    while i < roots.len() {
-        let word = roots[i];
-        let m = engine_moving::rename(heap, word, free);
-        roots[i] = m.word;
-        free = m.free;
-        let met = m.met;
-        tally = count(tally, met);
-        i += 1;
+    for root in roots.iter_mut() {
+        let renamed = engine_moving::rename(heap, *root, so_far.free);
+        *root = renamed.word;
+        so_far = so_far.past(renamed);
     }
-    Swept { free, tally }
+    so_far
 }
 
 // Copies what the roots reach from the `used` words at `old` to the words at `new`, and clears the old ones.
@@ -57,9 +49,7 @@ fn evacuate(heap: &mut [u32], roots: &mut [u32], old: Index, used: usize, new: I
         ≡ evacuated tuple heap.old roots.old old.0 used new.0 }
 {
     let visited = visit_roots(heap, roots, new);
-    let free = visited.free;
-    let tally = visited.tally;
-    let passed = engine_scanning::pass_objects(heap, new, free, tally);
+    let passed = engine_scanning::pass_objects(heap, new, visited);
     runs::clear(heap, old.0, used);
     passed
 }
@@ -68,19 +58,16 @@ fn evacuate(heap: &mut [u32], roots: &mut [u32], old: Index, used: usize, new: I
 // words are cleared.
 pub fn collect_sound(heap: &mut [u32], roots: &mut [u32], record: Record) -> Collected
     requires { sound tuple (state_of heap.old roots.old «record») ≡ true }
-    ensures { says (Says.Live result.counts) (leaves heap.new roots.new result.«record»)
-        ≡ collection tuple (lent heap.old roots.old «record») }
+    ensures { says (Says.Live result.counts) (state_of heap.new roots.new result.«record»)
+        ≡ collection tuple (state_of heap.old roots.old «record») }
 {
     let half_words = shape::half_words(heap.len());
-    let half = record.half;
-    let other = shape::other_half(half);
-    let old = shape::first_of(half_words, half);
-    let new = shape::first_of(half_words, other);
+    let half = shape::other_half(record.half);
+    let old = shape::first_of(half_words, record.half);
+    let new = shape::first_of(half_words, half);
     let used = record.free.0 - old.0;
-    let done = evacuate(heap, roots, old, used, new);
-    let end = done.free;
-    let tally = done.tally;
-    let live = (end.0 - new.0) as u32;
+    let Swept { free, tally } = evacuate(heap, roots, old, used, new);
+    let live = (free.0 - new.0) as u32;
     let objects = tally.copied as u32;
     let addresses = (tally.copied + tally.found) as u32;
     Collected {
@@ -89,20 +76,18 @@ pub fn collect_sound(heap: &mut [u32], roots: &mut [u32], record: Record) -> Col
             objects,
             addresses,
         },
-        record: Record {
-            half: other,
-            free: end,
-        },
+        record: Record { half, free },
     }
 }
 
 // The same, where the first `count` roots count as live: all of them. It is for a call that makes room, of
-// which the root that it sets counts too.
+// which the root that it sets counts too. The number is asked for so that a call with another is refused
+// for it alone: where a part of the roots is lent instead, one that has them all is refused as well.
 pub fn collect_among(heap: &mut [u32], roots: &mut [u32], count: usize, record: Record) -> Collected
     requires { (count ≡ length roots.old)
         × (sound tuple (state_of heap.old roots.old «record») ≡ true) }
-    ensures { says (Says.Live result.counts) (leaves heap.new roots.new result.«record»)
-        ≡ collection tuple (lent heap.old roots.old «record») }
+    ensures { says (Says.Live result.counts) (state_of heap.new roots.new result.«record»)
+        ≡ collection tuple (state_of heap.old roots.old «record») }
 {
     collect_sound(heap, &mut roots[..count], record)
 }

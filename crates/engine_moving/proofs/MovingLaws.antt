@@ -2,8 +2,7 @@
 use Prim.Native.Nat.{ℕ, ◌+◌, ◌≤◌}
 use native.Mathlib.Omega.{arith}
 use native.Mathlib.Numerals.{add-one}
-use mathlib.Core.Path.{◌≡◌, sym, ap, ◌∙◌}
-use mathlib.Core.Logic.{⊎_elim}
+use mathlib.Core.Path.{◌≡◌, refl, sym, ap, ◌∙◌}
 use mathlib.Core.Bool.{true, false}
 use mathlib.Core.List.{List}
 use lib.ListN.{length, set, length-set}
@@ -11,11 +10,11 @@ use Rattle.model.specs.Words.{at}
 use Rattle.model.specs.Values.{is_address}
 use Rattle.model.specs.Headers.{Layout}
 use Rattle.model.specs.Objects.{address, index, size}
-use Rattle.theory.proofs.Tests.{by_test}
+use Rattle.std.proofs.lemmas.Bool.{cond_both}
 use Rattle.runs.specs.Runs.{copied_run}
 use Rattle.runs.proofs.RunLaws.{copied-length, copied_front}
 use Rattle.engine_moving.specs.declared.Met.TheVariants.{Plain, Copied, Found}
-use Rattle.engine_moving.specs.Moving.{left, moved, relocated, renamed}
+use Rattle.engine_moving.specs.Moving.{Left, left, moved, relocated, renamed}
 
 module _ (Y : Layout) where
   module _ (h : List ℕ) (i f : ℕ) where
@@ -44,25 +43,18 @@ module _ (Y : Layout) where
     found-is a e ea = rw (relocated-found e, ea)
 
     relocated-length : length (relocated Y h i f).heap ≡ length h
+    unfolding relocated
     relocated-length =
-        ⊎_elim
-        (λ (e : Y.is_header (at h i) ≡ true). rw (relocated-copied e) (simp length-set (copied-length h i f (size Y h i))))
-        (λ (e : Y.is_header (at h i) ≡ false). rw (relocated-found e))
-        (by_test (Y.is_header (at h i)))
+        cond_both (Y.is_header (at h i)) _ _ (λ (l : Left). length l.heap ≡ length h)
+        (λ e. simp length-set (copied-length h i f (size Y h i))) (λ e. refl)
 
     relocated-free : f ≤ (relocated Y h i f).free
-    relocated-free =
-        ⊎_elim
-        (λ (e : Y.is_header (at h i) ≡ true). rw (relocated-copied e) (omega arith))
-        (λ (e : Y.is_header (at h i) ≡ false). rw (relocated-found e) (omega arith))
-        (by_test (Y.is_header (at h i)))
+    unfolding relocated
+    relocated-free = cond_both (Y.is_header (at h i)) _ _ (λ (l : Left). f ≤ l.free) (λ e. omega arith) (λ e. omega arith)
 
-    relocated-met : (relocated Y h i f).met ≡ Plain → ◌≡◌ {A = ℕ} 0 1
-    relocated-met p =
-        ⊎_elim
-        (λ (e : Y.is_header (at h i) ≡ true). let q : Copied ≡ Plain = rw (relocated-copied e) at p in cc)
-        (λ (e : Y.is_header (at h i) ≡ false). let q : Found ≡ Plain = rw (relocated-found e) at p in cc)
-        (by_test (Y.is_header (at h i)))
+    relocated-some : (relocated Y h i f).met ≡ Plain → ⊥
+    unfolding relocated
+    relocated-some = cond_both (Y.is_header (at h i)) _ _ (λ (l : Left). l.met ≡ Plain → ⊥) (λ e p. cc) (λ e p. cc)
 
   module _ (h : List ℕ) (w f : ℕ) where
     pub renamed-address : is_address w ≡ true → renamed Y h w f ≡ relocated Y h (index Y w) f
@@ -74,25 +66,17 @@ module _ (Y : Layout) where
     renamed-plain e = rw e
 
     pub renamed-length : length (renamed Y h w f).heap ≡ length h
+    unfolding renamed
     renamed-length =
-        ⊎_elim
-        (λ (e : is_address w ≡ true). rw (renamed-address e) (relocated-length h (index Y w) f))
-        (λ (e : is_address w ≡ false). rw (renamed-plain e))
-        (by_test (is_address w))
+        cond_both (is_address w) _ _ (λ (l : Left). length l.heap ≡ length h) (λ e. relocated-length h (index Y w) f) (λ e. refl)
 
     pub renamed-free : f ≤ (renamed Y h w f).free
-    renamed-free =
-        ⊎_elim
-        (λ (e : is_address w ≡ true). rw (renamed-address e) (relocated-free h (index Y w) f))
-        (λ (e : is_address w ≡ false). rw (renamed-plain e) (omega arith))
-        (by_test (is_address w))
+    unfolding renamed
+    renamed-free = cond_both (is_address w) _ _ (λ (l : Left). f ≤ l.free) (λ e. relocated-free h (index Y w) f) (λ e. omega arith)
 
     -- where no object was met, nothing is changed
     pub renamed_nothing : (renamed Y h w f).met ≡ Plain → renamed Y h w f ≡ left h w f Plain
-    renamed_nothing p =
-        ⊎_elim
-        (λ (e : is_address w ≡ true).
-        let z : ◌≡◌ {A = ℕ} 0 1 = relocated-met h (index Y w) f (rw (renamed-address e) at p) in
-        absurd (omega arith))
-        (λ (e : is_address w ≡ false). renamed-plain e)
-        (by_test (is_address w))
+    unfolding renamed
+    renamed_nothing =
+        cond_both (is_address w) _ _ (λ (l : Left). l.met ≡ Plain → l ≡ left h w f Plain)
+        (λ e p. absurd (relocated-some h (index Y w) f p)) (λ e p. refl)

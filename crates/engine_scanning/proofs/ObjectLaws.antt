@@ -155,7 +155,7 @@ module _ (Y : Layout) where
         record { before = more; safe = safe-first Y (size Y h i) (length h - (i + size Y h i)) h (between i f t) safe-cut }
 
     module _ (h' : List ℕ) (i' f' : ℕ) (t' : Tally) (e : after h' (between i' f' t') ≡ run Y (size Y h i) h (between i f t)) where
-      pub object-length : length h' ≡ length h
+      object-length : length h' ≡ length h
       object-length = ap (λ (a : After). length a.heap) e ∙ run_length Y (size Y h i) h (between i f t)
 
       object-next : i' ≡ i + size Y h i

@@ -2,14 +2,14 @@
 use Prim.Native.Nat.{ℕ, ◌+◌, ◌-◌, ◌≤◌}
 use native.Mathlib.Omega.{arith}
 use mathlib.Core.Path.{◌≡◌, refl, sym, ap, ◌∙◌}
-use mathlib.Core.Logic.{⊎_elim}
 use mathlib.Core.List.{List}
 use lib.ListN.{length, length-set}
 use lib.Seq.{set-get_or}
+use lib.Dec.{eqb}
 use borrow.Author.Tests.{eq-eqb, ne_eqb}
 use Rattle.model.specs.Words.{at}
 use Rattle.model.specs.Headers.{Layout}
-use Rattle.theory.proofs.Tests.{same?}
+use Rattle.std.proofs.lemmas.Bool.{cond_both}
 use Rattle.engine_moving.specs.declared.Met.TheVariants.{Plain}
 use Rattle.engine_moving.specs.Moving.{Left, left, renamed}
 use Rattle.engine_scanning.specs.Scanning.{Scan, After, stepped, kept, onward, values_of, raws_of, field_passed, passed}
@@ -50,18 +50,14 @@ module _ (Y : Layout) where
     pub grows : c.free ≤ a.scan.free
 
   pub passed-keeps : (h : List ℕ) (c : Scan) → Keeps h c (passed Y h c)
+  unfolding passed
   passed-keeps h c =
-      ⊎_elim
-      (λ (v : c.values ≡ 0).
-      ⊎_elim
-      (λ (r : c.raws ≡ 0). rw (passed-header h c v r) (record { same = refl; next = refl; grows = omega arith }))
-      (λ (r : c.raws ≡ 0 → ⊥). rw (passed-raw h c v r) (record { same = refl; next = refl; grows = omega arith }))
-      (same? c.raws 0))
-      (λ (v : c.values ≡ 0 → ⊥).
-      rw (passed-value h c v)
-      (record {
+      cond_both (eqb c.values 0) _ _ (Keeps h c)
+      (λ v. cond_both (eqb c.raws 0) _ _ (Keeps h c)
+      (λ r. record { same = refl; next = refl; grows = omega arith })
+      (λ r. record { same = refl; next = refl; grows = omega arith }))
+      (λ v. record {
         same = simp length-set (renamed-length Y h (at h c.at) c.free);
         next = refl;
         grows = renamed-free Y h (at h c.at) c.free;
-      }))
-      (same? c.values 0)
+      })

@@ -7,6 +7,7 @@ use Rattle.model.specs.Objects.{is_traced, size}
 use Rattle.engine_moving.specs.declared.Met.{Met}
 use Rattle.engine_moving.specs.declared.Met.TheVariants.{Plain}
 use Rattle.engine_moving.specs.declared.Tally.{Tally}
+use Rattle.engine_scanning.specs.declared.Passed.{Passed}
 use Rattle.engine_moving.specs.Moving.{Left, counted, MayCount, renamed, MayRename}
 
 -- where the scan stands: the next word; how many values, and then how many raw words, are left of the object that it is in;
@@ -24,6 +25,9 @@ scan i v r f t = record { at = i; values = v; raws = r; free = f; tally = t }
 -- between two objects
 abbrev pub between : ℕ → ℕ → Tally → Scan
 between i f t = scan i 0 0 f t
+
+abbrev pub stands : Passed → Scan
+stands p = between p.next.0 p.swept.free.0 p.swept.tally
 
 -- what passing leaves: the heap and where the scan stands
 pub record After : Type 0 where

@@ -2,10 +2,11 @@
 // record, and each looks at the object's header and at that field, and at no other heap word.
 ghost use Rattle.std.specs.Prelude.{◌≡◌};
 ghost use Rattle.model.specs.Headers as Layouts;
-ghost use Rattle.model.specs.Agreements.{thin_lent, thin_outcome};
+ghost use Rattle.model.specs.Words.{state_of};
+ghost use Rattle.model.specs.Agreements.{kept};
 ghost use Rattle.model.specs.Calls as Calls;
 
-use model::{Answer, Record};
+use model::{Answer, Record, Refusal};
 
 // Root `to` gets the word in a field of a traced object: done, or SHAPE, ROOT, OBJECT, KIND or FIELD. Leaves
 // the heap and the record.
@@ -16,13 +17,11 @@ pub fn load(
     object: usize,
     field: usize,
     to: usize,
-) -> Answer
-    ensures { thin_outcome result heap.new roots.new «record».new
-        ≡ Calls.load Layouts.tuple object field to (thin_lent heap.old roots.old «record».old) }
+) -> Result<Answer, Refusal>
+    ensures { kept result heap.new roots.new «record».new
+        ≡ Calls.load Layouts.tuple object field to (state_of heap.old roots.old «record».old) }
 {
-    let answered = host_by_value::load(heap, roots, *record, object, field, to);
-    *record = answered.record;
-    answered.answer
+    objects::load(heap, roots, *record, object, field, to)
 }
 
 // A field of a traced object gets root `from`'s word: done, or SHAPE, ROOT, OBJECT, KIND or FIELD. Leaves the
@@ -34,13 +33,11 @@ pub fn store(
     object: usize,
     field: usize,
     from: usize,
-) -> Answer
-    ensures { thin_outcome result heap.new roots.new «record».new
-        ≡ Calls.store Layouts.tuple object field from (thin_lent heap.old roots.old «record».old) }
+) -> Result<Answer, Refusal>
+    ensures { kept result heap.new roots.new «record».new
+        ≡ Calls.store Layouts.tuple object field from (state_of heap.old roots.old «record».old) }
 {
-    let answered = host_by_value::store(heap, roots, *record, object, field, from);
-    *record = answered.record;
-    answered.answer
+    objects::store(heap, roots, *record, object, field, from)
 }
 
 // The raw word in a field of an untraced object; or SHAPE, ROOT, OBJECT, KIND or FIELD. Leaves all as it was.
@@ -50,13 +47,11 @@ pub fn raw_read(
     record: &mut Record,
     object: usize,
     field: usize,
-) -> Answer
-    ensures { thin_outcome result heap.new roots.new «record».new
-        ≡ Calls.raw_read Layouts.tuple object field (thin_lent heap.old roots.old «record».old) }
+) -> Result<Answer, Refusal>
+    ensures { kept result heap.new roots.new «record».new
+        ≡ Calls.raw_read Layouts.tuple object field (state_of heap.old roots.old «record».old) }
 {
-    let answered = host_by_value::raw_read(heap, roots, *record, object, field);
-    *record = answered.record;
-    answered.answer
+    objects::raw_read(heap, roots, *record, object, field)
 }
 
 // A field of an untraced object gets a raw word: done, or SHAPE, ROOT, OBJECT, KIND or FIELD. Leaves the
@@ -68,11 +63,9 @@ pub fn raw_write(
     object: usize,
     field: usize,
     number: u32,
-) -> Answer
-    ensures { thin_outcome result heap.new roots.new «record».new
-        ≡ Calls.raw_write Layouts.tuple object field number (thin_lent heap.old roots.old «record».old) }
+) -> Result<Answer, Refusal>
+    ensures { kept result heap.new roots.new «record».new
+        ≡ Calls.raw_write Layouts.tuple object field number (state_of heap.old roots.old «record».old) }
 {
-    let answered = host_by_value::raw_write(heap, roots, *record, object, field, number);
-    *record = answered.record;
-    answered.answer
+    objects::raw_write(heap, roots, *record, object, field, number)
 }

@@ -2,10 +2,11 @@
 // record.
 ghost use Rattle.std.specs.Prelude.{◌≡◌};
 ghost use Rattle.model.specs.Headers as Layouts;
-ghost use Rattle.model.specs.Agreements.{thin_lent, thin_outcome};
+ghost use Rattle.model.specs.Words.{state_of};
+ghost use Rattle.model.specs.Agreements.{kept};
 ghost use Rattle.model.specs.Calls as Calls;
 
-use model::{Answer, Record};
+use model::{Answer, Record, Refusal};
 
 // Root `to` gets an integer's word: done, or SHAPE, ROOT or RANGE. Leaves the heap and the record, and looks
 // at no heap word.
@@ -15,23 +16,24 @@ pub fn set_integer(
     record: &mut Record,
     to: usize,
     value: i64,
-) -> Answer
-    ensures { thin_outcome result heap.new roots.new «record».new
-        ≡ Calls.set_integer to value (thin_lent heap.old roots.old «record».old) }
+) -> Result<Answer, Refusal>
+    ensures { kept result heap.new roots.new «record».new
+        ≡ Calls.set_integer to value (state_of heap.old roots.old «record».old) }
 {
-    let answered = host_by_value::set_integer(heap, roots, *record, to, value);
-    *record = answered.record;
-    answered.answer
+    blind::set_integer(heap, roots, *record, to, value)
 }
 
 // Root `to` gets null: done, or SHAPE or ROOT. Leaves the heap and the record, and looks at no heap word.
-pub fn set_null(heap: &mut [u32], roots: &mut [u32], record: &mut Record, to: usize) -> Answer
-    ensures { thin_outcome result heap.new roots.new «record».new
-        ≡ Calls.set_null to (thin_lent heap.old roots.old «record».old) }
+pub fn set_null(
+    heap: &mut [u32],
+    roots: &mut [u32],
+    record: &mut Record,
+    to: usize,
+) -> Result<Answer, Refusal>
+    ensures { kept result heap.new roots.new «record».new
+        ≡ Calls.set_null to (state_of heap.old roots.old «record».old) }
 {
-    let answered = host_by_value::set_null(heap, roots, *record, to);
-    *record = answered.record;
-    answered.answer
+    blind::set_null(heap, roots, *record, to)
 }
 
 // Root `to` gets a code word: done, or SHAPE, ROOT or RANGE. Leaves the heap and the record, and looks at no
@@ -42,13 +44,11 @@ pub fn set_code(
     record: &mut Record,
     to: usize,
     word: u32,
-) -> Answer
-    ensures { thin_outcome result heap.new roots.new «record».new
-        ≡ Calls.set_code to word (thin_lent heap.old roots.old «record».old) }
+) -> Result<Answer, Refusal>
+    ensures { kept result heap.new roots.new «record».new
+        ≡ Calls.set_code to word (state_of heap.old roots.old «record».old) }
 {
-    let answered = host_by_value::set_code(heap, roots, *record, to, word);
-    *record = answered.record;
-    answered.answer
+    blind::set_code(heap, roots, *record, to, word)
 }
 
 // Root `to` gets root `from`'s word, whatever it is: done, or SHAPE or ROOT. Leaves the heap and the record,
@@ -59,13 +59,11 @@ pub fn copy(
     record: &mut Record,
     from: usize,
     to: usize,
-) -> Answer
-    ensures { thin_outcome result heap.new roots.new «record».new
-        ≡ Calls.copy from to (thin_lent heap.old roots.old «record».old) }
+) -> Result<Answer, Refusal>
+    ensures { kept result heap.new roots.new «record».new
+        ≡ Calls.copy from to (state_of heap.old roots.old «record».old) }
 {
-    let answered = host_by_value::copy(heap, roots, *record, from, to);
-    *record = answered.record;
-    answered.answer
+    blind::copy(heap, roots, *record, from, to)
 }
 
 // Whether two roots hold equal words: yes or no, or SHAPE or ROOT. Leaves all as it was, and looks at no heap
@@ -76,23 +74,24 @@ pub fn same(
     record: &mut Record,
     one: usize,
     other: usize,
-) -> Answer
-    ensures { thin_outcome result heap.new roots.new «record».new
-        ≡ Calls.same one other (thin_lent heap.old roots.old «record».old) }
+) -> Result<Answer, Refusal>
+    ensures { kept result heap.new roots.new «record».new
+        ≡ Calls.same one other (state_of heap.old roots.old «record».old) }
 {
-    let answered = host_by_value::same(heap, roots, *record, one, other);
-    *record = answered.record;
-    answered.answer
+    blind::same(heap, roots, *record, one, other)
 }
 
 // What a root holds: null, an integer, a code word, or an object with its kind and field count; or SHAPE,
 // ROOT or OBJECT. Leaves all as it was. Of the heap it looks at the header that the root names, and at no
 // field.
-pub fn inspect(heap: &mut [u32], roots: &mut [u32], record: &mut Record, root: usize) -> Answer
-    ensures { thin_outcome result heap.new roots.new «record».new
-        ≡ Calls.inspect Layouts.tuple root (thin_lent heap.old roots.old «record».old) }
+pub fn inspect(
+    heap: &mut [u32],
+    roots: &mut [u32],
+    record: &mut Record,
+    root: usize,
+) -> Result<Answer, Refusal>
+    ensures { kept result heap.new roots.new «record».new
+        ≡ Calls.inspect Layouts.tuple root (state_of heap.old roots.old «record».old) }
 {
-    let answered = host_by_value::inspect(heap, roots, *record, root);
-    *record = answered.record;
-    answered.answer
+    views::inspect(heap, roots, *record, root)
 }

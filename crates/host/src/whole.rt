@@ -2,43 +2,39 @@
 // call.
 ghost use Rattle.std.specs.Prelude.{◌≡◌};
 ghost use Rattle.model.specs.Headers as Layouts;
-ghost use Rattle.model.specs.Agreements.{thin_lent, thin_lent_text, thin_outcome, thin_outcome_text};
+ghost use Rattle.model.specs.Words.{state_of, text_state_of};
+ghost use Rattle.model.specs.Agreements.{kept, kept_text};
 ghost use Rattle.model.specs.Calls as Calls;
 ghost use Rattle.model.specs.Sessions as Sessions;
 
-use model::{Answer, Call, Kind, Record};
+use crate::hand_back;
+use model::{Answer, Call, Kind, Record, Refusal};
 
 // Clears all heap words and sets the record to half A and free index 1: done, or the heap-length part of
 // SHAPE, and then the record stays. Leaves the roots, and looks neither at them nor at what the record says.
-pub fn fresh(heap: &mut [u32], roots: &mut [u32], record: &mut Record) -> Answer
-    ensures { thin_outcome result heap.new roots.new «record».new
-        ≡ Calls.fresh (thin_lent heap.old roots.old «record».old) }
+pub fn fresh(heap: &mut [u32], roots: &mut [u32], record: &mut Record) -> Result<Answer, Refusal>
+    ensures { kept result heap.new roots.new «record».new
+        ≡ Calls.fresh (state_of heap.old roots.old «record».old) }
 {
-    let answered = host_by_value::fresh(heap, roots, *record);
-    *record = answered.record;
-    answered.answer
+    hand_back(blind::fresh(heap, roots, *record), record)
 }
 
 // Whether the heap is sound, or SHAPE. Leaves all as it was: the marks that it makes in the heap are cleared
 // again.
-pub fn check(heap: &mut [u32], roots: &mut [u32], record: &mut Record) -> Answer
-    ensures { thin_outcome result heap.new roots.new «record».new
-        ≡ Calls.check Layouts.tuple (thin_lent heap.old roots.old «record».old) }
+pub fn check(heap: &mut [u32], roots: &mut [u32], record: &mut Record) -> Result<Answer, Refusal>
+    ensures { kept result heap.new roots.new «record».new
+        ≡ Calls.check Layouts.tuple (state_of heap.old roots.old «record».old) }
 {
-    let answered = host_by_value::check(heap, roots, *record);
-    *record = answered.record;
-    answered.answer
+    checker::check(heap, roots, *record)
 }
 
 // Copies what the roots reach to the other half, and clears this one: live words, live objects and addresses
 // met; or SHAPE or DAMAGED. Every object may move; the roots and the record follow.
-pub fn collect(heap: &mut [u32], roots: &mut [u32], record: &mut Record) -> Answer
-    ensures { thin_outcome result heap.new roots.new «record».new
-        ≡ Calls.collect Layouts.tuple (thin_lent heap.old roots.old «record».old) }
+pub fn collect(heap: &mut [u32], roots: &mut [u32], record: &mut Record) -> Result<Answer, Refusal>
+    ensures { kept result heap.new roots.new «record».new
+        ≡ Calls.collect Layouts.tuple (state_of heap.old roots.old «record».old) }
 {
-    let answered = collector::collect(heap, roots, *record);
-    *record = answered.record;
-    answered.answer
+    hand_back(collector::collect(heap, roots, *record), record)
 }
 
 // Root `to` gets a new object, its fields null or raw zeros: done, or SHAPE, ROOT, COUNT, DAMAGED or ROOM. If
@@ -51,13 +47,14 @@ pub fn allocate(
     kind: Kind,
     fields: usize,
     to: usize,
-) -> Answer
-    ensures { thin_outcome result heap.new roots.new «record».new
-        ≡ Calls.allocate Layouts.tuple kind fields to (thin_lent heap.old roots.old «record».old) }
+) -> Result<Answer, Refusal>
+    ensures { kept result heap.new roots.new «record».new
+        ≡ Calls.allocate Layouts.tuple kind fields to (state_of heap.old roots.old «record».old) }
 {
-    let answered = allocator::allocate(heap, roots, *record, kind, fields, to);
-    *record = answered.record;
-    answered.answer
+    hand_back(
+        allocator::allocate(heap, roots, *record, kind, fields, to),
+        record,
+    )
 }
 
 // One session call, whichever it is, lent the bytes of a text, which only write and read look at: its answer,
@@ -68,11 +65,9 @@ pub fn step(
     record: &mut Record,
     call: Call,
     text: &mut [u8],
-) -> Answer
-    ensures { thin_outcome_text result heap.new roots.new «record».new text.new
-        ≡ Sessions.step Layouts.tuple call (thin_lent_text heap.old roots.old «record».old text.old) }
+) -> Result<Answer, Refusal>
+    ensures { kept_text result heap.new roots.new «record».new text.new
+        ≡ Sessions.step Layouts.tuple call (text_state_of heap.old roots.old «record».old text.old) }
 {
-    let answered = session::step(heap, roots, *record, call, text);
-    *record = answered.record;
-    answered.answer
+    hand_back(session::step(heap, roots, *record, call, text), record)
 }

@@ -1,25 +1,24 @@
--- An integer that was tagged, or found out of range.
-use Prim.Native.Nat.{ℕ}
+-- An integer that was tagged, or is refused as out of range.
 use native.Mathlib.Omega.{arith}
-use mathlib.Core.Path.{◌≡◌, refl}
-use mathlib.Core.Bool.{Bool, true, false, cond}
-use lib.IntN.{ℤ}
+use Rattle.std.specs.Prelude.{ℕ, ◌≡◌, Bool, true, false, cond, ℤ, Some, None, Ok, Err}
+use Rattle.std.specs.Option.{ok_or}
+use Rattle.std.proofs.Common.{refl}
+use Rattle.model.specs.declared.Refusal.{Refusal}
 use Rattle.model.specs.Values.{in_range, tag}
-use Rattle.integers.specs.declared.Tagged.TheVariants.{Word, OutOfRange}
 use Rattle.integers.specs.Tagging.{tagged}
 
-pub tagged-word : (v : ℤ) (w : ℕ) → tagged v ≡ Word w → (in_range v ≡ true) × (tag v ≡ w)
+pub tagged_in : (v : ℤ) (k : Refusal) {w : ℕ} → ok_or (tagged v) k ≡ Ok w → (in_range v ≡ true) × (tag v ≡ w)
 unfolding tagged
-tagged-word v w = go (in_range v)
+tagged_in v k {w} = go (in_range v)
   where
-    go : (b : Bool) → cond b (Word (tag v)) OutOfRange ≡ Word w → (b ≡ true) × (tag v ≡ w)
+    go : (b : Bool) → ok_or (cond b (Some (tag v)) None) k ≡ Ok w → (b ≡ true) × (tag v ≡ w)
     go true e = (refl, cc e)
     go false e = absurd (let z : ◌≡◌ {A = ℕ} 0 1 = cc in omega arith)
 
-pub tagged-none : (v : ℤ) → tagged v ≡ OutOfRange → in_range v ≡ false
+pub tagged_out : (v : ℤ) (k : Refusal) {j : Refusal} → ok_or (tagged v) k ≡ Err j → (in_range v ≡ false) × (k ≡ j)
 unfolding tagged
-tagged-none v = go (in_range v)
+tagged_out v k {j} = go (in_range v)
   where
-    go : (b : Bool) → cond b (Word (tag v)) OutOfRange ≡ OutOfRange → b ≡ false
+    go : (b : Bool) → ok_or (cond b (Some (tag v)) None) k ≡ Err j → (b ≡ false) × (k ≡ j)
     go true e = absurd (let z : ◌≡◌ {A = ℕ} 0 1 = cc in omega arith)
-    go false e = refl
+    go false e = (refl, cc e)

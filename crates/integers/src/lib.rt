@@ -6,45 +6,35 @@ ghost use Rattle.std.specs.Prelude.{◌≡◌};
 ghost use Rattle.model.specs.Values as Values;
 ghost use Rattle.integers.specs.Tagging.{tagged};
 
-// The largest integer that a word can hold; the smallest is -1 less it.
-const MAX_INTEGER: u64 = 1073741823;
+use words::values::{LAST_WORD, MAX_INTEGER};
 
-// The largest word: that of -1.
-const LAST_WORD: u64 = 4294967295;
-
-// The word of an integer, or that there is none.
-#[derive(Clone, Copy)]
-pub enum Tagged {
-    Word(u32),
-    OutOfRange,
-}
-
-// The word of an integer. Of a negative one, -(below + 1), it is that many pairs below the largest word.
-pub fn tag(value: i64) -> Tagged
+// The word of an integer in range. Of a negative one, -(below + 1), it is that many pairs below the largest
+// word.
+pub fn tag(value: i64) -> Option<u32>
     ensures { result ≡ tagged value }
 {
     if value < 0 {
         let below = (-1 - value) as u64;
-        if MAX_INTEGER < below {
-            return Tagged::OutOfRange;
+        if below > MAX_INTEGER as u64 {
+            return None;
         }
-        return Tagged::Word((LAST_WORD - 2 * below) as u32);
+        return Some(LAST_WORD - 2 * below as u32);
     }
     let magnitude = value as u64;
-    if MAX_INTEGER < magnitude {
-        return Tagged::OutOfRange;
+    if magnitude > MAX_INTEGER as u64 {
+        return None;
     }
-    Tagged::Word((2 * magnitude + 1) as u32)
+    Some(2 * magnitude as u32 + 1)
 }
 
 // The integer that an odd word holds.
 pub fn untag(word: u32) -> i32
     ensures { result ≡ Values.untag word }
 {
-    let upper_bits = word as u64 / 2;
+    let upper_bits = word / 2;
     if upper_bits <= MAX_INTEGER {
         return upper_bits as i32;
     }
-    let below = (LAST_WORD - word as u64) / 2;
+    let below = (LAST_WORD - word) / 2;
     -1 - below as i32
 }

@@ -1,5 +1,6 @@
 -- The tables of cases and limits, together. This crate has no other proof: a wrong definition is refused by a value that
 -- comes out wrong, and not by a proof that no longer fits.
+use Rattle.std.specs.Prelude.{Ok}
 use mathlib.Core.Path.{◌≡◌}
 use mathlib.Core.List.{[], ◌∷◌, map}
 use Rattle.model.specs.declared.Answer.TheVariants as Says
@@ -20,7 +21,7 @@ use Rattle.model.specs.Edges as Edges
 -- the papers' cases, each clause of "names an object" and of "sound" broken alone, each call, and each limit
 pub record AllCases : Type 0 where
   pub worked : map ran Worked.cases ≡ map expected Worked.cases
-  pub begun : (Worked.begun).answer ≡ Says.Done
+  pub begun : (Worked.begun).answer ≡ Ok Says.Done
   pub coded : map ran CodeWords.codes ≡ map expected CodeWords.codes
   pub spelt : map ran TextCases.writer ≡ map expected TextCases.writer
   pub seen : map ran TextCases.reader ≡ map expected TextCases.reader

@@ -1,30 +1,27 @@
 -- What a call answers and leaves, and the paper's numbers for it. Document 01, "Refusals and their order".
-use Rattle.std.specs.Prelude.{ℕ, Bool, cond, List, ℤ, pos}
+use Rattle.std.specs.Prelude.{ℕ, Bool, cond, ℤ, pos, Result, Ok, Err}
 use Rattle.model.specs.declared.Kind.TheVariants.{Traced, Untraced}
 use Rattle.model.specs.declared.Refusal.{Refusal}
 use Rattle.model.specs.declared.Refusal.TheVariants as Why
 use Rattle.model.specs.declared.Counts.{Counts}
 use Rattle.model.specs.declared.Answer.{Answer}
 use Rattle.model.specs.declared.Answer.TheVariants as Says
-use Rattle.model.specs.declared.Answered.{Answered}
 use Rattle.model.specs.declared.Told.{Told}
-use Rattle.model.specs.Words.{State, state_of}
 
--- a call's answer, and what it leaves of what it was made on: of a state, or of an object graph
+-- a call's answer or why it refuses, and what it leaves of what it was made on: of a state, or of an object graph
 pub record Outcome (L : Type 0) : Type 0 where
-  pub answer : Answer
+  pub answer : Result Answer Refusal
   pub left : L
 
 abbrev pub says : {L : Type 0} → Answer → L → Outcome L
-says a s = record { answer = a; left = s }
+says a s = record { answer = Ok a; left = s }
 
--- the outcome of a by-value call, from what it returned and the words that it left: a promise is one equation of this
-abbrev pub outcome_of : Answered → List ℕ → List ℕ → Outcome State
-outcome_of a H R = says a.answer (state_of H R a.«record»)
+abbrev pub refused : {L : Type 0} → Refusal → L → Outcome L
+refused k s = record { answer = Err k; left = s }
 
 -- refused where the test holds, and nothing changes; otherwise what follows
 unfoldable pub refuse : {L : Type 0} → Bool → Refusal → L → Outcome L → Outcome L
-refuse b k s next = cond b (says (Says.Refused k) s) next
+refuse b k s next = cond b (refused k s) next
 
 -- the number of a refusal. It is a name: the order in which refusals are given is `Refusals.rank`.
 abbrev pub number : Refusal → ℕ
@@ -63,18 +60,18 @@ tells_counts c = record {
   addresses = c.addresses;
 }
 
-abbrev pub told : Answer → Told
-told Says.Done = tells 0 0 0
-told (Says.Live c) = tells_counts c
-told Says.Sound = tells 0 0 1
-told Says.Unsound = tells 0 0 0
-told Says.Yes = tells 0 0 1
-told Says.No = tells 0 0 0
-told Says.Null = tells 0 0 0
-told (Says.Integer v) = tells_integer v
-told (Says.Object Traced n) = tells 0 2 n
-told (Says.Object Untraced n) = tells 0 3 n
-told (Says.Code w) = tells 0 4 w
-told (Says.Number w) = tells 0 0 w
-told (Says.Written n) = tells_length n
-told (Says.Refused k) = tells (number k) 0 0
+abbrev pub told : Result Answer Refusal → Told
+told (Ok Says.Done) = tells 0 0 0
+told (Ok (Says.Live c)) = tells_counts c
+told (Ok Says.Sound) = tells 0 0 1
+told (Ok Says.Unsound) = tells 0 0 0
+told (Ok Says.Yes) = tells 0 0 1
+told (Ok Says.No) = tells 0 0 0
+told (Ok Says.Null) = tells 0 0 0
+told (Ok (Says.Integer v)) = tells_integer v
+told (Ok (Says.Object Traced n)) = tells 0 2 n
+told (Ok (Says.Object Untraced n)) = tells 0 3 n
+told (Ok (Says.Code w)) = tells 0 4 w
+told (Ok (Says.Number w)) = tells 0 0 w
+told (Ok (Says.Written n)) = tells_length n
+told (Err k) = tells (number k) 0 0

@@ -16,7 +16,7 @@ use Rattle.model.specs.Shape.{bad_length}
 use Rattle.model.specs.Objects.{is_traced, index, kind, field_count, field_index, field_words, names}
 use Rattle.model.specs.Soundness.{sound}
 use Rattle.model.specs.Collection.{counts, collected}
-use Rattle.model.specs.Answers.{Outcome, says, refuse}
+use Rattle.model.specs.Answers.{Outcome, says, refused, refuse}
 use Rattle.model.specs.Texts.{Form, as_integer, as_tuple, textless, max_depth, value_pieces, Spelled, spelled, writes}
 use Rattle.model.specs.Admission.{on_roots}
 use Rattle.model.specs.Trees.{tree_words}
@@ -161,7 +161,7 @@ module _ (Y : Layout) where
   -- the tree of a text, into the root `to`
   abbrev pub reads : ℕ → State → Parsed → Outcome State
   reads to s (tree t) = with_room (tree_words t) (planted Y t to) s
-  reads to s (broken k) = says (Says.Refused k) s
+  reads to s (broken k) = refused k s
 
   unfoldable pub read : ℕ → State → Outcome State
   read to s = on_roots (to ∷ []) s (reads to s (parsed s.text))

@@ -1,12 +1,10 @@
 -- Demand 1: every public call answers on any words, roots and record; bad input gets the numbered refusal of document 01, in its
 -- order; a refused call changes nothing, and only ROOM leaves the heap collected. The conditions are in Refusals.
 -- That every call answers and ends is no statement here: the definitions are functions, and the code is proved to return.
-use Rattle.std.specs.Prelude.{ℕ, ◌+◌, ◌≤◌, ◌≡◌, ◌⊎◌, ◌↔◌, List, [], ◌∷◌}
+use Rattle.std.specs.Prelude.{ℕ, ◌+◌, ◌≤◌, ◌≡◌, ◌⊎◌, ◌↔◌, List, [], ◌∷◌, Err}
 use Rattle.model.specs.declared.Refusal.{Refusal}
 use Rattle.model.specs.declared.Refusal.TheVariants as Why
-use Rattle.model.specs.declared.Answer.TheVariants as Says
 use Rattle.model.specs.declared.Call.{Call}
-use Rattle.model.specs.declared.Place.TheVariants as Place
 use Rattle.model.specs.Words.{State}
 use Rattle.model.specs.Headers.{Layout}
 use Rattle.model.specs.Collection.{collected}
@@ -35,13 +33,13 @@ pub record Refuses (qs : List Row) (Answers : Refusal → Type 0) : Type 0 where
   pub none : ((k : Refusal) → Answers k → ⊥) ↔ None qs
 
 abbrev pub Refused : Outcome State → Refusal → Type 0
-Refused o k = o.answer ≡ Says.Refused k
+Refused o k = o.answer ≡ Err k
 
 pub record Demand1 (Y : Layout) (M : Machine) : Type 0 where
   -- each session call, fresh, and the window
   pub session : (c : Call) (s : State) → Refuses (rows Y c s) (Refused (M.step c s))
   pub fresh : (s : State) → Refuses (fresh_rows s) (Refused (M.fresh s))
-  pub opened : (r : ℕ) (s : State) → Refuses (window_rows Y r s) (λ k. window Y r s ≡ Place.Refused k)
+  pub opened : (r : ℕ) (s : State) → Refuses (window_rows Y r s) (λ k. window Y r s ≡ Err k)
   -- in the order of their ranks
   pub in_order : (c : Call) (s : State) → RisingFrom 0 (rows Y c s)
   pub in_order_opened : (r : ℕ) (s : State) → RisingFrom 0 (window_rows Y r s)

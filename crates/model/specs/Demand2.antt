@@ -1,7 +1,7 @@
 -- Demand 2: a collection keeps exactly one copy of each reachable object and of nothing else; fields and sharing agree; the
 -- copies are packed in the order in which they are met; the answer is the words of the reachable objects, their number, and that of
 -- the object addresses in roots and in their fields.
-use Rattle.std.specs.Prelude.{ℕ, suc, ◌+◌, ◌≤◌, ◌<◌, ◌≡◌, ◌⊎◌, true, length, get_or, take}
+use Rattle.std.specs.Prelude.{ℕ, suc, ◌+◌, ◌≤◌, ◌<◌, ◌≡◌, ◌⊎◌, true, length, get_or, take, Ok}
 use mathlib.Core.List.{List, [], ◌∷◌, ◌++◌, map, Memᴰ}
 use Rattle.model.specs.declared.Kind.TheVariants.{Traced, Untraced}
 use Rattle.model.specs.declared.Counts.{Counts}
@@ -104,7 +104,7 @@ module _ (Y : Layout) where
   -- of the call: its answer is these numbers, and it leaves that
   pub record CollectsBy (M : Machine) (s : State) : Type 0 where
     pub counts : Counts
-    pub answers : (M.step Ask.Collect s).answer ≡ Says.Live counts
+    pub answers : (M.step Ask.Collect s).answer ≡ Ok (Says.Live counts)
     pub leaves : Collects s (M.step Ask.Collect s).left counts
 
   -- for every sound state

@@ -1,14 +1,13 @@
 -- Demand 3: one list of session calls gives the same answers at two heap sizes until the smaller answers "no room", and these are
 -- the answers of an object graph with unlimited room; "no room" exactly when live words plus needed words exceed the half.
 -- It is said of any two sound states that stand for one graph, and of heaps that begin with fresh.
-use Rattle.std.specs.Prelude.{ℕ, ◌+◌, ◌*◌, ◌≤◌, ◌<◌, ◌≡◌, ◌↔◌, Bool, cond, eqb, length, get_or, take, replicate}
+use Rattle.std.specs.Prelude.{ℕ, ◌+◌, ◌*◌, ◌≤◌, ◌<◌, ◌≡◌, ◌↔◌, Bool, cond, eqb, length, get_or, take, replicate, Err, Result}
 use mathlib.Core.List.{List, [], ◌∷◌, Memᴰ}
 use Rattle.std.proofs.Math.Option.{Option, none, some}
 use Rattle.model.specs.declared.Record.{Record}
 use Rattle.model.specs.declared.Refusal.{Refusal}
 use Rattle.model.specs.declared.Refusal.TheVariants as Why
 use Rattle.model.specs.declared.Answer.{Answer}
-use Rattle.model.specs.declared.Answer.TheVariants as Says
 use Rattle.model.specs.declared.Call.{Call}
 use Rattle.model.specs.declared.Call.TheVariants as Ask
 use Rattle.model.specs.Limits.{max_half, max_roots}
@@ -49,10 +48,10 @@ begun M e = (M.fresh (state_of e.heap (replicate e.null_roots 0) e.«record»)).
 
 -- ---- "no room"
 
-abbrev pub no_room : Answer
-no_room = Says.Refused Why.Room
+abbrev pub no_room : Result Answer Refusal
+no_room = Err Why.Room
 
-abbrev pub is_no_room : Answer → Bool
+abbrev pub is_no_room : Result Answer Refusal → Bool
 is_no_room a = eqb (told a).refusal (number Why.Room)
 
 -- the calls of a list that are not answered "no room"
@@ -88,7 +87,7 @@ needed (Ask.Write _) text = none
 
 -- the graph carries the call out, and live words and needed words exceed a half of S words
 pub record Exceeds (S : ℕ) (g : Graph) (c : Asked) : Type 0 where
-  pub unrefused : (k : Refusal) → (graph_asked c g).answer ≡ Says.Refused k → ⊥
+  pub unrefused : (k : Refusal) → (graph_asked c g).answer ≡ Err k → ⊥
   pub words : ℕ
   pub needs : needed c.call c.text ≡ some words
   pub exceed : S < (graph_counts g).live + words
@@ -126,7 +125,7 @@ module _ (M : Machine) where
 
   -- the refusal k is no answer to any list of calls
   abbrev pub Never : Refusal → State → Type 0
-  Never k s = (cs : List Asked) → Memᴰ (Says.Refused k) (answers M cs s) → ⊥
+  Never k s = (cs : List Asked) → Memᴰ (Err k) (answers M cs s) → ⊥
 
 -- what a collection counts, said by what is reachable: some list names each reachable object of the graph once, and of every such
 -- list live words are the sum of n + 1, the objects its length, and the addresses the values that are objects in the fields of its

@@ -1,7 +1,7 @@
 -- What each call does where nothing refuses it: a field a sentence of document 01's "The calls" or of document 02's Q-1, of any
 -- machine. What a refused call leaves is demand 1's, what collect leaves demand 2's. The three together leave no machine a choice:
 -- `Pinned`.
-use Rattle.std.specs.Prelude.{ℕ, ◌+◌, ◌%◌, ◌≤◌, ◌<◌, ◌≡◌, ◌⊎◌, ◌↔◌, List, ℤ, length}
+use Rattle.std.specs.Prelude.{ℕ, ◌+◌, ◌%◌, ◌≤◌, ◌<◌, ◌≡◌, ◌⊎◌, ◌↔◌, List, ℤ, length, Ok}
 use Rattle.model.specs.declared.Half.TheVariants.{A}
 use Rattle.model.specs.declared.Kind.{Kind}
 use Rattle.model.specs.declared.Kind.TheVariants.{Traced}
@@ -106,7 +106,7 @@ pub record Cleared (s t : State) : Type 0 where
 
 -- "done", and what is left
 abbrev pub Done : Outcome State → (State → Type 0) → Type 0
-Done o P = (o.answer ≡ Says.Done) × P o.left
+Done o P = (o.answer ≡ Ok Says.Done) × P o.left
 
 -- everything is as it was
 abbrev pub Leaves : Outcome State → State → Type 0
@@ -125,8 +125,8 @@ module _ (Y : Layout) where
     -- fresh clears all heap words; half A, free index 1
     pub fresh : (s : State) → (BadLength s → ⊥) → Done (M.fresh s) (Cleared s)
     -- check: sound or not; no word differs afterwards
-    pub check_sound : (s : State) → Passes Ask.Check s → ((M.step Ask.Check s).answer ≡ Says.Sound) ↔ Sound Y s
-    pub check_unsound : (s : State) → Passes Ask.Check s → ((M.step Ask.Check s).answer ≡ Says.Unsound) ↔ (Sound Y s → ⊥)
+    pub check_sound : (s : State) → Passes Ask.Check s → ((M.step Ask.Check s).answer ≡ Ok Says.Sound) ↔ Sound Y s
+    pub check_unsound : (s : State) → Passes Ask.Check s → ((M.step Ask.Check s).answer ≡ Ok Says.Unsound) ↔ (Sound Y s → ⊥)
     pub check_leaves : (s : State) → Passes Ask.Check s → Leaves (M.step Ask.Check s) s
     -- an allocation that fits places the object; one that does not collects first and tries again
     pub allocate_now : (kind : Kind) (fields to : ℕ) (s : State) → Passes (Ask.Allocate kind fields to) s → fields + 1 ≤ spare s
@@ -148,31 +148,31 @@ module _ (Y : Layout) where
         → Done (M.step (Ask.Store object field from) s) (WordChanged s (field_at s object field) (root_word s from))
     -- raw read and raw write: the same for an untraced object and a plain number
     pub raw_read : (object field : ℕ) (s : State) → Passes (Ask.RawRead object field) s
-        → (M.step (Ask.RawRead object field) s).answer ≡ Says.Number (at s.heap (field_at s object field))
+        → (M.step (Ask.RawRead object field) s).answer ≡ Ok (Says.Number (at s.heap (field_at s object field)))
     pub raw_read_leaves : (object field : ℕ) (s : State) → Passes (Ask.RawRead object field) s
         → Leaves (M.step (Ask.RawRead object field) s) s
     pub raw_write : (object field number : ℕ) (s : State) → Passes (Ask.RawWrite object field number) s
         → Done (M.step (Ask.RawWrite object field number) s) (WordChanged s (field_at s object field) number)
     -- same: yes exactly when two roots hold equal words
     pub same_yes : (one other : ℕ) (s : State) → Passes (Ask.Same one other) s
-        → ((M.step (Ask.Same one other) s).answer ≡ Says.Yes) ↔ (root_word s one ≡ root_word s other)
+        → ((M.step (Ask.Same one other) s).answer ≡ Ok Says.Yes) ↔ (root_word s one ≡ root_word s other)
     pub same_no : (one other : ℕ) (s : State) → Passes (Ask.Same one other) s
-        → ((M.step (Ask.Same one other) s).answer ≡ Says.No) ↔ (root_word s one ≡ root_word s other → ⊥)
+        → ((M.step (Ask.Same one other) s).answer ≡ Ok Says.No) ↔ (root_word s one ≡ root_word s other → ⊥)
     pub same_leaves : (one other : ℕ) (s : State) → Passes (Ask.Same one other) s → Leaves (M.step (Ask.Same one other) s) s
     -- inspect: a root holds null, an integer with its value, a code word, or an object, traced or untraced, with its field count
     pub inspect_null : (root : ℕ) (s : State) → Passes (Ask.Inspect root) s → root_word s root ≡ 0
-        → (M.step (Ask.Inspect root) s).answer ≡ Says.Null
+        → (M.step (Ask.Inspect root) s).answer ≡ Ok Says.Null
     pub inspect_integer : (root : ℕ) (s : State) → Passes (Ask.Inspect root) s → root_word s root % 2 ≡ 1
-        → (M.step (Ask.Inspect root) s).answer ≡ Says.Integer (untag (root_word s root))
+        → (M.step (Ask.Inspect root) s).answer ≡ Ok (Says.Integer (untag (root_word s root)))
     pub inspect_code : (root : ℕ) (s : State) → Passes (Ask.Inspect root) s → root_word s root % 2 ≡ 0 → code_floor ≤ root_word s root
-        → (M.step (Ask.Inspect root) s).answer ≡ Says.Code (root_word s root)
+        → (M.step (Ask.Inspect root) s).answer ≡ Ok (Says.Code (root_word s root))
     pub inspect_object : (root : ℕ) (s : State) → Passes (Ask.Inspect root) s → Names Y s (root_word s root)
         → (M.step (Ask.Inspect root) s).answer
-        ≡ Says.Object (kind Y s.heap (index Y (root_word s root))) (field_count Y s.heap (index Y (root_word s root)))
+        ≡ Ok (Says.Object (kind Y s.heap (index Y (root_word s root))) (field_count Y s.heap (index Y (root_word s root))))
     pub inspect_leaves : (root : ℕ) (s : State) → Passes (Ask.Inspect root) s → Leaves (M.step (Ask.Inspect root) s) s
     -- write: the text of the root's value; its answer is the text's length, and no byte past the text changes
     pub write : (root : ℕ) (s : State) → Passes (Ask.Write root) s
-        → (bs : List ℕ) × HasText Y s max_depth (root_word s root) bs × ((M.step (Ask.Write root) s).answer ≡ Says.Written (length bs))
+        → (bs : List ℕ) × HasText Y s max_depth (root_word s root) bs × ((M.step (Ask.Write root) s).answer ≡ Ok (Says.Written (length bs)))
         × TextWritten s bs (M.step (Ask.Write root) s).left
     -- read: a tree whose words fit is placed; if they do not, it collects first and tries again
     pub read_now : (to : ℕ) (s : State) (t : Tree) → Passes (Ask.Read to) s → IsText s.text t → tree_words t ≤ spare s

@@ -9,7 +9,7 @@ use Rattle.model.specs.declared.Call.{Call}
 use Rattle.model.specs.declared.Call.TheVariants as Ask
 use Rattle.model.specs.Limits.{max_fields}
 use Rattle.model.specs.Values.{is_code, in_range}
-use Rattle.model.specs.Answers.{Outcome, says, refuse}
+use Rattle.model.specs.Answers.{Outcome, says, refuse, refused}
 use Rattle.model.specs.Admission.{no_roots}
 use Rattle.model.specs.Texts.{Form, as_integer, as_tuple, textless, max_depth, value_pieces, spelled, writes}
 use Rattle.model.specs.Trees.{Forest, end, leaf_then, node_then, Tree, leaf, node, count}
@@ -66,7 +66,7 @@ graph_planted (node inner) r g = graph_laid inner (length g.objects) 0 (grown Tr
 
 abbrev pub graph_reads : ℕ → Graph → Parsed → Outcome Graph
 graph_reads to g (tree t) = says Says.Done (graph_planted t to g)
-graph_reads to g (broken k) = says (Says.Refused k) g
+graph_reads to g (broken k) = refused k g
 
 abbrev pub same_integer : ℤ → ℤ → Bool
 same_integer (pos a) (pos b) = eqb a b
@@ -98,11 +98,11 @@ by_kind (untraced ws) t u = u ws
 
 -- the same of the object that a value is; OBJECT where it is none
 unfoldable pub on_object : Graph → Value → (ℕ → List Value → Outcome Graph) → (ℕ → List ℕ → Outcome Graph) → Outcome Graph
-on_object g (plain p) t u = says (Says.Refused Why.Object) g
+on_object g (plain p) t u = refused Why.Object g
 on_object g (object i) t u = by_kind (nth g i) (t i) (u i)
 
 abbrev pub wrong_kind : {A : Type 0} → Graph → ℕ → List A → Outcome Graph
-wrong_kind g i xs = says (Says.Refused Why.Kind) g
+wrong_kind g i xs = refused Why.Kind g
 
 abbrev pub plain_answer : Plain → Answer
 plain_answer (integer v) = Says.Integer v

@@ -2,23 +2,27 @@
 -- back, objects' addresses and code words, lengths, that answers in numbers can be told apart, and that a promise settles
 -- everything.
 use Rattle.std.specs.Prelude.{ℕ, ◌*◌, ◌%◌, ◌≤◌, ◌<◌, ◌≡◌, ◌↔◌, Bool, true, false, List, [], length, ℤ, pos, ◌+ℤ◌, ◌*ℤ◌}
+use Rattle.std.specs.Prelude.{Err, Ok, Result}
 use Rattle.model.specs.declared.Index.{Index}
 use Rattle.model.specs.declared.Kind.{Kind}
 use Rattle.model.specs.declared.Refusal.{Refusal}
 use Rattle.model.specs.declared.Refusal.TheVariants as Why
 use Rattle.model.specs.declared.Answer.TheVariants as Says
+use Rattle.model.specs.declared.Record.{Record}
+use Rattle.model.specs.declared.Answer.{Answer}
 use Rattle.model.specs.declared.Answered.{Answered}
+use Rattle.model.specs.Agreements.{outcome_text, kept_text}
 use Rattle.model.specs.declared.Call.{Call}
 use Rattle.model.specs.declared.Call.TheVariants as Ask
 use Rattle.model.specs.declared.Place.{Place}
 use Rattle.model.specs.Limits.{max_fields}
-use Rattle.model.specs.Words.{State, state_of, with_text, at}
+use Rattle.model.specs.Words.{State, at}
 use Rattle.model.specs.Values.{is_odd, is_code, in_range, tag, untag}
 use Rattle.model.specs.Headers.{Layout, Lawful, tuple}
 use Rattle.model.specs.Objects.{address, index, field_count, field_index}
-use Rattle.model.specs.Answers.{Outcome, says, told}
+use Rattle.model.specs.Answers.{Outcome, told}
 use Rattle.model.specs.Changes.{root_word}
-use Rattle.model.specs.Window.{window, shown, window_count, window_word}
+use Rattle.model.specs.Window.{window, shown, window_count, window_word, place}
 use Rattle.model.specs.Sessions.{Machine}
 use Rattle.model.specs.Conditions.{BadShape}
 
@@ -52,19 +56,19 @@ RecordStays M = (c : Call) (s : State) → changes_record c ≡ false → (M.ste
 pub record Shows (Y : Layout) (s : State) (r : ℕ) (i : Index) (n : ℕ) : Type 0 where
   pub object : i.0 ≡ index Y (root_word s r)
   pub fields : n ≡ field_count Y s.heap i.0
-  pub words : length (shown s.heap (Place.Object i n)) ≡ n
-  pub count : window_count (Place.Object i n) ≡ n
-  pub word : (f : ℕ) → f < n → window_word s.heap (Place.Object i n) f ≡ Says.Number (at s.heap (field_index i.0 f))
-  pub past : (f : ℕ) → n ≤ f → window_word s.heap (Place.Object i n) f ≡ Says.Refused Why.Field
+  pub words : length (shown s.heap (Ok (place i n))) ≡ n
+  pub count : window_count (Ok (place i n)) ≡ n
+  pub word : (f : ℕ) → f < n → window_word s.heap (Ok (place i n)) f ≡ Ok (Says.Number (at s.heap (field_index i.0 f)))
+  pub past : (f : ℕ) → n ≤ f → window_word s.heap (Ok (place i n)) f ≡ Err Why.Field
 
 -- refused, it shows no words
 pub record Hides (s : State) (k : Refusal) : Type 0 where
-  pub words : shown s.heap (Place.Refused k) ≡ []
-  pub count : window_count (Place.Refused k) ≡ 0
-  pub word : (f : ℕ) → window_word s.heap (Place.Refused k) f ≡ Says.Refused Why.Field
+  pub words : shown s.heap (Err k) ≡ []
+  pub count : window_count (Err k) ≡ 0
+  pub word : (f : ℕ) → window_word s.heap (Err k) f ≡ Err Why.Field
 
 pub record WindowLaw (Y : Layout) : Type 0 where
-  pub shows : (r : ℕ) (s : State) (i : Index) (n : ℕ) → window Y r s ≡ Place.Object i n → Shows Y s r i n
+  pub shows : (r : ℕ) (s : State) (i : Index) (n : ℕ) → window Y r s ≡ Ok (place i n) → Shows Y s r i n
   pub hides : (s : State) (k : Refusal) → Hides s k
 
 -- ---- words
@@ -106,14 +110,15 @@ pub record ToldApart (M : Machine) : Type 0 where
       → (M.step c s).answer ≡ (M.step c s').answer
   pub fresh : (s s' : State) → told (M.fresh s).answer ≡ told (M.fresh s').answer → (M.fresh s).answer ≡ (M.fresh s').answer
   -- and a window's word
-  pub word : (H H' : List ℕ) (p p' : Place) (f f' : ℕ) → told (window_word H p f) ≡ told (window_word H' p' f')
+  pub word : (H H' : List ℕ) (p p' : Result Place Refusal) (f f' : ℕ) → told (window_word H p f) ≡ told (window_word H' p' f')
       → window_word H p f ≡ window_word H' p' f'
 
--- a promise is an equation `outcome .. ≡ o`, of no bytes, or `outcome_text .. ≡ o`: any two outcomes that it allows have equal answers,
--- records, words, roots and bytes
-abbrev pub settled : Answered → List ℕ → List ℕ → List ℕ → Outcome State
-settled a H R T = says a.answer (with_text T (state_of H R a.«record»))
-
+-- a promise is an equation `outcome .. ≡ o` or `kept .. ≡ o`, of no bytes, or `outcome_text .. ≡ o` or `kept_text .. ≡ o`: any two
+-- outcomes that it allows have equal answers, records, words, roots and bytes
 abbrev pub Settles : Type 0
-Settles = (o : Outcome State) (a b : Answered) (H H' R R' T T' : List ℕ) → settled a H R T ≡ o → settled b H' R' T' ≡ o
+Settles = (o : Outcome State) (a b : Answered) (H H' R R' T T' : List ℕ) → outcome_text a H R T ≡ o → outcome_text b H' R' T' ≡ o
     → (a ≡ b) × (H ≡ H') × (R ≡ R') × (T ≡ T')
+
+abbrev pub KeptSettles : Type 0
+KeptSettles = (o : Outcome State) (a b : Result Answer Refusal) (q q' : Record) (H H' R R' T T' : List ℕ)
+    → kept_text a H R q T ≡ o → kept_text b H' R' q' T' ≡ o → (a ≡ b) × (q ≡ q') × (H ≡ H') × (R ≡ R') × (T ≡ T')

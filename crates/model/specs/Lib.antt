@@ -1,5 +1,6 @@
 -- The definitions of document 01, to be read in this order: each file has one subject and says which section it is.
 -- Then what the three demands say of them, and further laws, as types; the crates `demands` and `theory` have their proofs.
+-- Last, how a half, a record and an answer's numbers print.
 pub mod Limits
 pub mod Words
 pub mod Values
@@ -45,3 +46,4 @@ pub mod Settling
 pub mod Looks
 pub mod Laws
 pub mod TextLaws
+pub mod Shown

@@ -1,7 +1,8 @@
 -- Sessions: one call after another, each lent bytes of its own. Document 01, "The calls"; document 02, Q-2.
-use Rattle.std.specs.Prelude.{ℕ, List, [], ◌∷◌, map}
+use Rattle.std.specs.Prelude.{ℕ, List, [], ◌∷◌, map, Result}
 use Rattle.model.specs.declared.Call.{Call}
 use Rattle.model.specs.declared.Call.TheVariants as Ask
+use Rattle.model.specs.declared.Refusal.{Refusal}
 use Rattle.model.specs.declared.Answer.{Answer}
 use Rattle.model.specs.Words.{State, with_text}
 use Rattle.model.specs.Headers.{Layout}
@@ -42,7 +43,7 @@ pub record Asked : Type 0 where
   pub text : List ℕ
 
 pub record Reply : Type 0 where
-  pub answer : Answer
+  pub answer : Result Answer Refusal
   pub text : List ℕ
 
 -- a call that is lent no bytes
@@ -60,7 +61,7 @@ module _ (M : Machine) where
   replies (c ∷ cs) s = let o = asked c s in record { answer = o.answer; text = o.left.text } ∷ replies cs o.left
 
   -- the answers among them
-  abbrev pub answers : List Asked → State → List Answer
+  abbrev pub answers : List Asked → State → List (Result Answer Refusal)
   answers cs s = map (λ r. r.answer) (replies cs s)
 
   -- and what the calls leave, once the bytes are the host's again

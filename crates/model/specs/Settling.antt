@@ -1,7 +1,7 @@
 -- Collecting twice settles: the second collection leaves the first's objects in the same order, S words on or back, and the third
 -- exactly what the first left. Document 02, Q-5. And what images tell: an image is a matter of the graph alone, and says all of a heap
 -- but its half and its size.
-use Rattle.std.specs.Prelude.{ℕ, ◌+◌, ◌*◌, ◌≤◌, ◌<◌, ◌≡◌, ◌⊎◌, true, false, length, get_or}
+use Rattle.std.specs.Prelude.{ℕ, ◌+◌, ◌*◌, ◌≤◌, ◌<◌, ◌≡◌, ◌⊎◌, true, false, length, get_or, Ok}
 use mathlib.Core.List.{Memᴰ}
 use Rattle.model.specs.declared.Half.{Half}
 use Rattle.model.specs.declared.Half.TheVariants.{A, B}
@@ -90,9 +90,9 @@ module _ (Y : Layout) where
     pub returns : thrice M s ≡ once M s
     -- and all three answer the same three numbers
     pub counts : Counts
-    pub first : (M.step Ask.Collect s).answer ≡ Says.Live counts
-    pub second : (M.step Ask.Collect (once M s)).answer ≡ Says.Live counts
-    pub third : (M.step Ask.Collect (twice M s)).answer ≡ Says.Live counts
+    pub first : (M.step Ask.Collect s).answer ≡ Ok (Says.Live counts)
+    pub second : (M.step Ask.Collect (once M s)).answer ≡ Ok (Says.Live counts)
+    pub third : (M.step Ask.Collect (twice M s)).answer ≡ Ok (Says.Live counts)
 
   -- for every sound state
   abbrev pub Settling : Machine → Type 0

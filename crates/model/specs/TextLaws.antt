@@ -1,6 +1,6 @@
 -- What is stated of texts beside the demands, of any machine. Document 02, Q-2: writing what was read gives the same text; the reader
 -- takes exactly the texts that the writer can write; a text has no more words than bytes.
-use Rattle.std.specs.Prelude.{ℕ, ◌≤◌, ◌<◌, ◌≡◌, true, ◌↔◌, List, map, length, get_or}
+use Rattle.std.specs.Prelude.{ℕ, ◌≤◌, ◌<◌, ◌≡◌, true, ◌↔◌, List, map, length, get_or, Err, Ok}
 use Rattle.model.specs.declared.Refusal.TheVariants as Why
 use Rattle.model.specs.declared.Answer.TheVariants as Says
 use Rattle.model.specs.declared.Call.TheVariants as Ask
@@ -16,9 +16,9 @@ use Rattle.model.specs.Effects.{TextWritten}
 
 -- after a read that is done, the root is written as the text that was read, into any bytes that have room for it
 abbrev pub RoundTrip : Machine → Type 0
-RoundTrip M = (to : ℕ) (s : State) (t : List ℕ) → (M.step (Ask.Read to) s).answer ≡ Says.Done → length s.text ≤ length t
+RoundTrip M = (to : ℕ) (s : State) (t : List ℕ) → (M.step (Ask.Read to) s).answer ≡ Ok Says.Done → length s.text ≤ length t
     → let u = with_text t (M.step (Ask.Read to) s).left in
-    ((M.step (Ask.Write to) u).answer ≡ Says.Written (length s.text)) × TextWritten u s.text (M.step (Ask.Write to) u).left
+    ((M.step (Ask.Write to) u).answer ≡ Ok (Says.Written (length s.text))) × TextWritten u s.text (M.step (Ask.Write to) u).left
 
 -- a value whose integer, if it is one, lies in the range, as that of each word does
 abbrev pub Ranged : Value → Type 0
@@ -38,7 +38,7 @@ pub record Writable (bs : List ℕ) : Type 0 where
 -- of a call that SHAPE and ROOT let pass: neither VALUE nor DEEP exactly when the bytes are such
 abbrev pub AcceptsExactly : Machine → Type 0
 AcceptsExactly M = (to : ℕ) (s : State) → (BadShape s → ⊥) → to < length s.roots
-    → (((M.step (Ask.Read to) s).answer ≡ Says.Refused Why.Value → ⊥) × ((M.step (Ask.Read to) s).answer ≡ Says.Refused Why.Deep → ⊥))
+    → (((M.step (Ask.Read to) s).answer ≡ Err Why.Value → ⊥) × ((M.step (Ask.Read to) s).answer ≡ Err Why.Deep → ⊥))
     ↔ Writable s.text
 
 -- the words of a text's objects are no more than its bytes, so that no sum of them overflows

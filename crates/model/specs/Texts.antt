@@ -11,7 +11,7 @@ use Rattle.std.specs.Prelude.{ℕ, zero, suc, ◌+◌, ◌/◌, ◌%◌, cond, L
 use Rattle.model.specs.declared.Refusal.{Refusal}
 use Rattle.model.specs.declared.Refusal.TheVariants as Why
 use Rattle.model.specs.declared.Answer.TheVariants as Says
-use Rattle.model.specs.Answers.{Outcome, says}
+use Rattle.model.specs.Answers.{Outcome, says, refused}
 
 -- ---- integers
 
@@ -122,4 +122,4 @@ over bs t = bs ++ drop (length bs) t
 -- what a writer answers and leaves: of s, which was lent the bytes t, and of s with other bytes
 abbrev pub writes : {L : Type 0} → (List ℕ → L) → L → List ℕ → Spelled → Outcome L
 writes with_text s t (whole bs) = says (Says.Written (length bs)) (with_text (over bs t))
-writes with_text s t (broken k) = says (Says.Refused k) s
+writes with_text s t (broken k) = refused k s

@@ -32,6 +32,10 @@ with_record q s = record { heap = s.heap; roots = s.roots; «record» = q; text 
 abbrev pub with_text : List ℕ → State → State
 with_text t s = record { heap = s.heap; roots = s.roots; «record» = s.«record»; text = t }
 
+-- where the bytes of a text are lent too
+abbrev pub text_state_of : List ℕ → List ℕ → Record → List ℕ → State
+text_state_of H R q t = with_text t (state_of H R q)
+
 abbrev pub with_free : Half → ℕ → State → State
 with_free h f s = with_record (record { half = h; free = record { 0 = f } }) s
 

@@ -1,8 +1,8 @@
 -- The worked heaps of document 01, P1 to P10 and the Fresh cases: one table and one statement, computed by
 -- the checker. A case is a run of session calls, with its answers in the paper's numbers. CodeWords, TextCases,
 -- Counting, Repeating, Unnamed, Unsound and EachCall have further tables of cases, and Edges has the limits. The programs
--- `cases` and `text_cases` run every case of these tables but those of Edges.
-use Rattle.std.specs.Prelude.{ℕ, ◌+◌, ◌*◌, ◌≡◌, refl, List, [], ◌∷◌, ◌++◌, map, set, replicate, ℤ, pos, negsuc}
+-- `cases` and `text_cases` run every case of these tables but those of Repeating and Edges.
+use Rattle.std.specs.Prelude.{ℕ, ◌+◌, ◌*◌, ◌≡◌, refl, List, [], ◌∷◌, ◌++◌, map, set, replicate, ℤ, pos, negsuc, Ok}
 use Rattle.model.specs.declared.Half.{Half}
 use Rattle.model.specs.declared.Half.TheVariants.{A, B}
 use Rattle.model.specs.declared.Kind.TheVariants.{Traced, Untraced}
@@ -49,16 +49,16 @@ abbrev pub unchanged : State → List Call → List Told → Case
 unchanged s cs a = case s cs a s
 
 -- the answers and what is left, as they should be and as they come
-pub record Result : Type 0 where
+pub record Ending : Type 0 where
   pub answered : List Told
   pub texts : List (List ℕ)
   pub left : State
 
-abbrev pub expected : Case → Result
+abbrev pub expected : Case → Ending
 expected c = record { answered = c.answered; texts = c.texts; left = c.left }
 
 -- whoever unfolds it unfolds all that a call computes with
-unfoldable pub ran : Case → Result
+unfoldable pub ran : Case → Ending
 unfolding tuple untag bad_shape_of names mem visit visits packed words_before found
     tiles headers_from is_value fields_are_values sound addresses_in word_leads order_at live addresses_among counts rename
     copied refuse placed fresh check collect allocate set_integer set_null set_code copy load store raw_read raw_write same inspect
@@ -191,6 +191,6 @@ unfolding ran
 worked = refl
 
 -- fresh's answer by its case: the numbers of "done" are those of "no" too
-pub fresh_says : begun.answer ≡ Says.Done
+pub fresh_says : begun.answer ≡ Ok Says.Done
 unfolding ran
 fresh_says = refl

@@ -6,8 +6,10 @@ ghost use Rattle.std.specs.Prelude.{◌≡◌, ◌≤◌};
 ghost use Rattle.model.specs.Limits.{max_words};
 ghost use Rattle.model.specs.Words.{address_of, index_of};
 
+mod shown;
+
 // Half A is words 1 to S, half B words S + 1 to 2S.
-#[derive(Clone, Copy)]
+#[derive(Clone, Copy, PartialEq, Eq)]
 pub enum Half {
     A,
     B,
@@ -29,7 +31,7 @@ pub struct Record {
 }
 
 // Fields of a traced object are values; those of an untraced one are raw words, never followed.
-#[derive(Clone, Copy)]
+#[derive(Clone, Copy, PartialEq, Eq)]
 pub enum Kind {
     Traced,
     Untraced,
@@ -37,33 +39,33 @@ pub enum Kind {
 
 // Why a call refuses, by document 01's and 02's numbers, which are names: the order in which refusals are
 // given is `rank` of the definitions.
-#[derive(Clone, Copy)]
+#[derive(Clone, Copy, PartialEq, Eq)]
 pub enum Refusal {
     // The heap's length, the number of roots or the free index is outside its range.
-    Shape,
+    Shape = 1,
     // A root number is not below the number of roots.
-    Root,
+    Root = 2,
     // More fields than a header can hold.
-    Count,
+    Count = 3,
     // An integer that a word cannot hold, or a word to be set as a code word that is none.
-    Range,
+    Range = 4,
     // The root names no object.
-    Object,
+    Object = 5,
     // A traced call on an untraced object, or the reverse.
-    Kind,
+    Kind = 6,
     // The object has no such field.
-    Field,
+    Field = 7,
     // A collection is called for and the heap is not sound.
-    Damaged,
+    Damaged = 8,
     // The words needed do not fit after the collection either.
-    Room,
+    Room = 9,
     // Write: null, a code word or an untraced object, which have no text. Read: the bytes are no text, or an
     // integer is out of range.
-    Value,
+    Value = 10,
     // An object that would be the 65th nested.
-    Deep,
+    Deep = 11,
     // The text has more bytes than are lent.
-    Text,
+    Text = 12,
 }
 
 // What a collection counts.
@@ -78,7 +80,7 @@ pub struct Counts {
     pub addresses: u32,
 }
 
-// What a call answers.
+// What a call answers that does not refuse.
 #[derive(Clone, Copy)]
 pub enum Answer {
     Done,
@@ -98,25 +100,40 @@ pub enum Answer {
     Number(u32),
     // Write: the bytes of the text.
     Written(usize),
-    Refused(Refusal),
 }
 
-// What a by-value call returns: its answer, and the record to hand to the next call.
+// What a by-value call returns that may leave another record: its answer or why it refuses, and the record to
+// hand to the next call.
 #[derive(Clone, Copy)]
 pub struct Answered {
-    pub answer: Answer,
+    pub answer: Result<Answer, Refusal>,
     pub record: Record,
 }
 
-// An answer with the record that goes with it.
-pub fn say(answer: Answer, record: Record) -> Answered
-    ensures { result ≡ record { answer = answer; «record» = «record» } }
-{
-    Answered { answer, record }
+impl Answered {
+    // An answer with the record that goes with it.
+    pub fn say(answer: Answer, record: Record) -> Answered
+        ensures { result ≡ record { answer = Ok answer; «record» = «record» } }
+    {
+        Answered {
+            answer: Ok(answer),
+            record,
+        }
+    }
+
+    // A refusal with the record that goes with it.
+    pub fn refuse(refusal: Refusal, record: Record) -> Answered
+        ensures { result ≡ record { answer = Err refusal; «record» = «record» } }
+    {
+        Answered {
+            answer: Err(refusal),
+            record,
+        }
+    }
 }
 
 // An answer in document 01's numbers.
-#[derive(Clone, Copy)]
+#[derive(Clone, Copy, Default)]
 pub struct Told {
     // The refusal's number, 0 for none.
     pub refusal: u32,
@@ -193,14 +210,14 @@ pub enum Call {
     },
 }
 
-// Where the object of a window stands, the index of its header and its field count; or why there is none.
+// Where the object of a window stands: the index of its header, and its field count.
 #[derive(Clone, Copy)]
-pub enum Place {
-    Object(Index, u32),
-    Refused(Refusal),
+pub struct Place {
+    pub header: Index,
+    pub count: u32,
 }
 
-// The address of a word of a heap.
+// The address of a word of a heap. (No `From`: an index past all heaps has no address.)
 pub fn address_of(index: Index) -> Address
     requires { index.0 ≤ max_words }
     ensures { result.0 ≡ address_of index.0 }

@@ -1,14 +1,17 @@
 -- An object that a word names lies in the heap: what SHAPE and the test of the name say of its words.
 use Prim.Native.Nat.{ℕ, suc, ◌+◌, ◌-◌, ◌≤◌, ◌<◌, ◌%◌}
 use native.Mathlib.Omega.{arith}
-use mathlib.Core.Path.{◌≡◌, sym, ap, ◌∙◌}
+use denote.Enum.Bare.{sameb}
+use mathlib.Core.Path.{◌≡◌, refl, sym, ap, ◌∙◌}
 use mathlib.Core.Logic.{⊎_elim}
 use mathlib.Core.Bool.{Bool, true, false, not, cond, ◌&&◌, and-false, and_assoc}
 use mathlib.Core.List.{List}
 use lib.Dec.{ltb, leb, eqb}
 use lib.ListN.{length}
 use borrow.Author.Tests.{leb-true, ltb-true, eqb-true}
+use Rattle.model.specs.contracts.Kind as Kinds
 use Rattle.model.specs.declared.Kind.{Kind}
+use Rattle.model.specs.declared.Kind.TheVariants.{Traced, Untraced}
 use Rattle.model.specs.declared.Record.{Record}
 use Rattle.model.specs.declared.Refusal.TheVariants as Why
 use Rattle.model.specs.Words.{State, at, state_of, first_word, free}
@@ -22,8 +25,18 @@ use Rattle.theory.proofs.Shape.{shaped, first_in}
 use Rattle.theory.proofs.WordSorts.{parts_address}
 use Rattle.model.specs.Calls.{is_of_kind}
 use Rattle.words.proofs.ShapeTests.{same_test}
-use Rattle.naming.specs.declared.Field.TheVariants.{At, Refused}
+use Rattle.std.specs.Prelude.{Ok, Err}
 use Rattle.naming.specs.Named.{FreeInHeap, field_of}
+
+-- the test of kinds, as the code makes it
+same_kind : (k h : Kind) → is_of_kind k h ≡ sameb Kinds.the_type h k
+same_kind Traced Traced = refl
+same_kind Traced Untraced = refl
+same_kind Untraced Traced = refl
+same_kind Untraced Untraced = refl
+
+pub other-kind : {b : Bool} (k : Kind) {h h' : Kind} → h' ≡ h → not (sameb Kinds.the_type h' k) ≡ b → not (is_of_kind k h) ≡ b
+other-kind k {h} e f = ap not (same_kind k h) ∙ ap (λ (h : Kind). not (sameb Kinds.the_type h k)) (sym e) ∙ f
 
 pub free_in_heap : (s : State) → bad_shape s ≡ false → FreeInHeap s.heap s.«record»
 free_in_heap s h =
@@ -88,7 +101,7 @@ module _ (Y : Layout) where
   -- the field by its three tests, whatever each comes to, at the header's index as the code has it
   pub field_tests : {a b c : Bool} (k : Kind) (w f i : ℕ) (s : State) → i ≡ index Y w
       → not (names Y s w) ≡ a → not (is_of_kind k (kind Y s.heap i)) ≡ b → leb (field_count Y s.heap i) f ≡ c
-      → cond a (Refused Why.Object) (cond b (Refused Why.Kind) (cond c (Refused Why.Field) (At (record { 0 = field_index i f }))))
+      → cond a (Err Why.Object) (cond b (Err Why.Kind) (cond c (Err Why.Field) (Ok (record { 0 = field_index i f }))))
       ≡ field_of Y k w f s
   unfolding field_of
   field_tests k w f i s e pa pb pc = simp (sym e, pa, pb, pc)

@@ -5,7 +5,6 @@ ghost use Rattle.std.specs.Prelude.{◌≡◌, List, ℕ};
 ghost use Rattle.model.specs.Words.{state_of};
 ghost use Rattle.model.specs.Headers as Layouts;
 ghost use Rattle.model.specs.Objects as Objects;
-ghost use Rattle.model.specs.Calls.{is_of_kind};
 ghost use Rattle.naming.specs.Named.{FreeInHeap, field_of};
 
 use model::{Address, Index, Kind, Record, Refusal};
@@ -22,9 +21,8 @@ pub fn names(heap: &[u32], record: Record, word: u32) -> bool
     if word % 4 != 0 {
         return false;
     }
-    let half = record.half;
     let free = record.free.0;
-    let first = first_of(half_words(heap.len()), half).0;
+    let first = first_of(half_words(heap.len()), record.half).0;
     let at = Tuple::index_of(Address(word)).0;
     if !in_run(at, first, free - first) {
         return false;
@@ -36,40 +34,28 @@ pub fn names(heap: &[u32], record: Record, word: u32) -> bool
     Tuple::count_of(header) < free - at
 }
 
-// The index of a field's word, or why there is none.
-#[derive(Clone, Copy)]
-pub enum Field {
-    At(Index),
-    Refused(Refusal),
-}
-
-// Whether a header is that of an object of the kind that a call is for.
-fn is_of_kind(kind: Kind, header: u32) -> bool
-    ensures { result ≡ is_of_kind kind ((Layouts.tuple).kind_of header) }
-{
-    let traced = Tuple::is_traced(header);
-    match kind {
-        Kind::Traced => traced,
-        Kind::Untraced => !traced,
-    }
-}
-
-// The field of the object that a word names: OBJECT, KIND and FIELD in order.
-pub fn field_of(heap: &[u32], record: Record, word: u32, kind: Kind, field: usize) -> Field
+// The index of the word of a field of the object that a word names; or OBJECT, KIND and FIELD in order.
+pub fn field_of(
+    heap: &[u32],
+    record: Record,
+    word: u32,
+    kind: Kind,
+    field: usize,
+) -> Result<Index, Refusal>
     requires { FreeInHeap heap.now «record» }
     ensures { (R : List ℕ) → result
         ≡ field_of Layouts.tuple kind word field (state_of heap.now R «record») }
 {
     if !names(heap, record, word) {
-        return Field::Refused(Refusal::Object);
+        return Err(Refusal::Object);
     }
     let at = Tuple::index_of(Address(word)).0;
     let header = heap[at];
-    if !is_of_kind(kind, header) {
-        return Field::Refused(Refusal::Kind);
+    if Tuple::kind_of(header) != kind {
+        return Err(Refusal::Kind);
     }
     if Tuple::count_of(header) <= field {
-        return Field::Refused(Refusal::Field);
+        return Err(Refusal::Field);
     }
-    Field::At(Index(at + 1 + field))
+    Ok(Index(at + 1 + field))
 }

@@ -6,26 +6,15 @@ ghost use Rattle.model.specs.declared.Answer.TheVariants as Says;
 ghost use Rattle.model.specs.Answers as Answers;
 
 use model::{Answer, Counts, Kind, Refusal, Told};
+use seen::Shown;
 
 pub mod seen;
 
+// (No `From`: neither type is this crate's.)
 pub fn number(refusal: Refusal) -> u32
     ensures { result ≡ Answers.number refusal }
 {
-    match refusal {
-        Refusal::Shape => 1,
-        Refusal::Root => 2,
-        Refusal::Count => 3,
-        Refusal::Range => 4,
-        Refusal::Object => 5,
-        Refusal::Kind => 6,
-        Refusal::Field => 7,
-        Refusal::Damaged => 8,
-        Refusal::Room => 9,
-        Refusal::Value => 10,
-        Refusal::Deep => 11,
-        Refusal::Text => 12,
-    }
+    refusal as u32
 }
 
 // Numbers put together, of an answer that carries one number of 32 bits without a sign or none: the refusal's
@@ -34,94 +23,82 @@ pub fn tells(refusal: u32, holds: u32, value: u32) -> Told
     ensures { result ≡ Answers.tells refusal holds value }
 {
     Told {
-        refusal: refusal,
-        holds: holds,
-        integer: 0,
-        value: value,
-        length: 0,
-        objects: 0,
-        addresses: 0,
+        refusal,
+        holds,
+        value,
+        ..Told::default()
     }
-}
-
-// The numbers of a root that holds an integer.
-pub fn integer(value: i32) -> Told
-    ensures { result ≡ Answers.told (Says.Integer value) }
-{
-    Told {
-        refusal: 0,
-        holds: 1,
-        integer: value,
-        value: 0,
-        length: 0,
-        objects: 0,
-        addresses: 0,
-    }
-}
-
-// The numbers of a root that holds an object, of its kind and field count.
-pub fn object(kind: Kind, fields: u32) -> Told
-    ensures { result ≡ Answers.told (Says.Object kind fields) }
-{
-    match kind {
-        Kind::Traced => tells(0, 2, fields),
-        Kind::Untraced => tells(0, 3, fields),
-    }
-}
-
-// The numbers of a root that holds a code word.
-pub fn code(word: u32) -> Told
-    ensures { result ≡ Answers.told (Says.Code word) }
-{
-    tells(0, 4, word)
 }
 
 // The numbers of a text that was written, of its bytes.
 pub fn written(length: usize) -> Told
-    ensures { result ≡ Answers.told (Says.Written length) }
+    ensures { result ≡ Answers.told (Ok (Says.Written length)) }
 {
     Told {
-        refusal: 0,
-        holds: 0,
-        integer: 0,
-        value: 0,
-        length: length,
-        objects: 0,
-        addresses: 0,
+        length,
+        ..Told::default()
     }
 }
 
 // The numbers of a collection.
 pub fn live(counts: Counts) -> Told
-    ensures { result ≡ Answers.told (Says.Live counts) }
+    ensures { result ≡ Answers.told (Ok (Says.Live counts)) }
 {
     Told {
-        refusal: 0,
-        holds: 0,
-        integer: 0,
         value: counts.live,
-        length: 0,
         objects: counts.objects,
         addresses: counts.addresses,
+        ..Told::default()
     }
 }
 
-pub fn told(answer: Answer) -> Told
+impl Shown for Told {
+    ghost of = { λ answer. Answers.told answer };
+
+    fn null() -> Self {
+        Told::default()
+    }
+
+    fn integer(value: i32) -> Self {
+        Told {
+            holds: 1,
+            integer: value,
+            ..Told::default()
+        }
+    }
+
+    fn object(kind: Kind, fields: u32) -> Self {
+        match kind {
+            Kind::Traced => tells(0, 2, fields),
+            Kind::Untraced => tells(0, 3, fields),
+        }
+    }
+
+    fn code(word: u32) -> Self {
+        tells(0, 4, word)
+    }
+
+    fn refused(refusal: Refusal) -> Self {
+        tells(number(refusal), 0, 0)
+    }
+}
+
+pub fn told(answer: Result<Answer, Refusal>) -> Told
     ensures { result ≡ Answers.told answer }
 {
     match answer {
-        Answer::Done => tells(0, 0, 0),
-        Answer::Live(counts) => live(counts),
-        Answer::Sound => tells(0, 0, 1),
-        Answer::Unsound => tells(0, 0, 0),
-        Answer::Yes => tells(0, 0, 1),
-        Answer::No => tells(0, 0, 0),
-        Answer::Null => tells(0, 0, 0),
-        Answer::Integer(value) => integer(value),
-        Answer::Object(kind, fields) => object(kind, fields),
-        Answer::Code(word) => code(word),
-        Answer::Number(number) => tells(0, 0, number),
-        Answer::Written(length) => written(length),
-        Answer::Refused(refusal) => tells(number(refusal), 0, 0),
+        Ok(Answer::Done) => tells(0, 0, 0),
+        Ok(Answer::Live(counts)) => live(counts),
+        Ok(Answer::Sound) => tells(0, 0, 1),
+        Ok(Answer::Unsound) => tells(0, 0, 0),
+        Ok(Answer::Yes) => tells(0, 0, 1),
+        Ok(Answer::No) => tells(0, 0, 0),
+        Ok(Answer::Null) => Told::null(),
+        Ok(Answer::Integer(value)) => Told::integer(value),
+        Ok(Answer::Object(kind, fields)) => Told::object(kind, fields),
+        Ok(Answer::Code(word)) => Told::code(word),
+        Ok(Answer::Number(number)) => tells(0, 0, number),
+        Ok(Answer::Written(length)) => written(length),
+        Err(refusal) => Told::refused(refusal),
     }
 }

@@ -1,14 +1,61 @@
-// What inspect tells, with a place of its own for each number, by what the root holds. Such a struct is put
-// together once it is known which numbers are 0, so that no test comes after.
-ghost use Rattle.std.specs.Prelude.{◌≡◌};
+// What inspect tells of a root: as its answer, or with a place of its own for each number.
+ghost use Rattle.std.specs.Prelude.{◌≡◌, Result};
+ghost use Rattle.model.specs.declared.Answer.{Answer};
 ghost use Rattle.model.specs.declared.Answer.TheVariants as Says;
+ghost use Rattle.model.specs.declared.Refusal.{Refusal};
 ghost use Rattle.model.specs.Answers.{told};
 ghost use Rattle.numbers.specs.Places.{seen_of};
 
 use super::number;
-use model::{Kind, Refusal};
+use model::{Answer, Kind, Refusal};
 
-#[derive(Clone, Copy)]
+// A form in which inspect tells what a root holds, or why it refuses. It is put together once it is known
+// which, so that no test comes after.
+pub trait Shown {
+    ghost of: { Result Answer Refusal → Self };
+
+    fn null() -> Self
+        ensures { result ≡ of (Ok Says.Null) };
+
+    fn integer(value: i32) -> Self
+        ensures { result ≡ of (Ok (Says.Integer value)) };
+
+    fn object(kind: Kind, fields: u32) -> Self
+        ensures { result ≡ of (Ok (Says.Object kind fields)) };
+
+    fn code(word: u32) -> Self
+        ensures { result ≡ of (Ok (Says.Code word)) };
+
+    fn refused(refusal: Refusal) -> Self
+        ensures { result ≡ of (Err refusal) };
+}
+
+impl Shown for Result<Answer, Refusal> {
+    ghost of = { λ answer. answer };
+
+    fn null() -> Self {
+        Ok(Answer::Null)
+    }
+
+    fn integer(value: i32) -> Self {
+        Ok(Answer::Integer(value))
+    }
+
+    fn object(kind: Kind, fields: u32) -> Self {
+        Ok(Answer::Object(kind, fields))
+    }
+
+    fn code(word: u32) -> Self {
+        Ok(Answer::Code(word))
+    }
+
+    fn refused(refusal: Refusal) -> Self {
+        Err(refusal)
+    }
+}
+
+// The numbers of document 01, a place for each.
+#[derive(Clone, Copy, Default)]
 pub struct Seen {
     // The refusal's number, 0 for none.
     pub refusal: u32,
@@ -19,71 +66,45 @@ pub struct Seen {
     pub code: u32,
 }
 
-pub fn null() -> Seen
-    ensures { result ≡ seen_of (told Says.Null) }
-{
-    Seen {
-        refusal: 0,
-        holds: 0,
-        integer: 0,
-        count: 0,
-        code: 0,
-    }
-}
+impl Shown for Seen {
+    ghost of = { λ answer. seen_of (told answer) };
 
-pub fn integer(value: i32) -> Seen
-    ensures { result ≡ seen_of (told (Says.Integer value)) }
-{
-    Seen {
-        refusal: 0,
-        holds: 1,
-        integer: value,
-        count: 0,
-        code: 0,
+    fn null() -> Self {
+        Seen::default()
     }
-}
 
-pub fn object(kind: Kind, fields: u32) -> Seen
-    ensures { result ≡ seen_of (told (Says.Object kind fields)) }
-{
-    match kind {
-        Kind::Traced => Seen {
-            refusal: 0,
-            holds: 2,
-            integer: 0,
+    fn integer(value: i32) -> Self {
+        Seen {
+            holds: 1,
+            integer: value,
+            ..Seen::default()
+        }
+    }
+
+    fn object(kind: Kind, fields: u32) -> Self {
+        let holds = match kind {
+            Kind::Traced => 2,
+            Kind::Untraced => 3,
+        };
+        Seen {
+            holds,
             count: fields,
-            code: 0,
-        },
-        Kind::Untraced => Seen {
-            refusal: 0,
-            holds: 3,
-            integer: 0,
-            count: fields,
-            code: 0,
-        },
+            ..Seen::default()
+        }
     }
-}
 
-pub fn code(word: u32) -> Seen
-    ensures { result ≡ seen_of (told (Says.Code word)) }
-{
-    Seen {
-        refusal: 0,
-        holds: 4,
-        integer: 0,
-        count: 0,
-        code: word,
+    fn code(word: u32) -> Self {
+        Seen {
+            holds: 4,
+            code: word,
+            ..Seen::default()
+        }
     }
-}
 
-pub fn refused(refusal: Refusal) -> Seen
-    ensures { result ≡ seen_of (told (Says.Refused refusal)) }
-{
-    Seen {
-        refusal: number(refusal),
-        holds: 0,
-        integer: 0,
-        count: 0,
-        code: 0,
+    fn refused(refusal: Refusal) -> Self {
+        Seen {
+            refusal: number(refusal),
+            ..Seen::default()
+        }
     }
 }

@@ -4,13 +4,14 @@
 
 ghost use Rattle.std.specs.Prelude.{◌≡◌};
 ghost use Rattle.model.specs.Headers as Layouts;
-ghost use Rattle.model.specs.Agreements.{lent, outcome};
+ghost use Rattle.model.specs.Words.{state_of};
+ghost use Rattle.model.specs.Agreements.{kept};
 ghost use Rattle.model.specs.Calls as Calls;
 ghost use Rattle.objects.specs.Reached.{reached};
 
-use model::{Answer, Answered, Kind, Record, Refusal, say};
-use naming::{Field, field_of};
-use words::shape::{bad_shape, no_root};
+use model::{Answer, Index, Kind, Record, Refusal};
+use naming::field_of;
+use words::admission::admit_both;
 
 // What the four calls have in common: SHAPE, ROOT for the object's root and for the other that the call
 // names, and then the field. A call that names no other root names the object's twice.
@@ -22,15 +23,10 @@ fn reach(
     object: usize,
     field: usize,
     other: usize,
-) -> Field
-    ensures { result ≡ reached Layouts.tuple kind object field other (lent heap.now roots.now «record») }
+) -> Result<Index, Refusal>
+    ensures { result ≡ reached Layouts.tuple kind object field other (state_of heap.now roots.now «record») }
 {
-    if bad_shape(heap.len(), roots.len(), record) {
-        return Field::Refused(Refusal::Shape);
-    }
-    if no_root(roots.len(), object, other) {
-        return Field::Refused(Refusal::Root);
-    }
+    admit_both(heap, roots, record, object, other)?;
     field_of(heap, record, roots[object], kind, field)
 }
 
@@ -43,19 +39,13 @@ pub fn load(
     object: usize,
     field: usize,
     to: usize,
-) -> Answered
-    ensures { outcome result heap.now roots.new
-        ≡ Calls.load Layouts.tuple object field to (lent heap.now roots.old «record») }
+) -> Result<Answer, Refusal>
+    ensures { kept result heap.now roots.new «record»
+        ≡ Calls.load Layouts.tuple object field to (state_of heap.now roots.old «record») }
 {
-    let found = reach(heap, roots, record, Kind::Traced, object, field, to);
-    match found {
-        Field::At(index) => {
-            let at = index.0;
-            roots[to] = heap[at];
-            say(Answer::Done, record)
-        }
-        Field::Refused(refusal) => say(Answer::Refused(refusal), record),
-    }
+    let found = reach(heap, roots, record, Kind::Traced, object, field, to)?;
+    roots[to] = heap[found.0];
+    Ok(Answer::Done)
 }
 
 // A field of a traced object gets root `from`'s word: done, or SHAPE, ROOT, OBJECT, KIND or FIELD. Leaves the
@@ -67,19 +57,13 @@ pub fn store(
     object: usize,
     field: usize,
     from: usize,
-) -> Answered
-    ensures { outcome result heap.new roots.now
-        ≡ Calls.store Layouts.tuple object field from (lent heap.old roots.now «record») }
+) -> Result<Answer, Refusal>
+    ensures { kept result heap.new roots.now «record»
+        ≡ Calls.store Layouts.tuple object field from (state_of heap.old roots.now «record») }
 {
-    let target = reach(heap, roots, record, Kind::Traced, object, field, from);
-    match target {
-        Field::At(index) => {
-            let at = index.0;
-            heap[at] = roots[from];
-            say(Answer::Done, record)
-        }
-        Field::Refused(refusal) => say(Answer::Refused(refusal), record),
-    }
+    let target = reach(heap, roots, record, Kind::Traced, object, field, from)?;
+    heap[target.0] = roots[from];
+    Ok(Answer::Done)
 }
 
 // The raw word in a field of an untraced object; or SHAPE, ROOT, OBJECT, KIND or FIELD. Leaves all as it was.
@@ -89,19 +73,13 @@ pub fn raw_read(
     record: Record,
     object: usize,
     field: usize,
-) -> Answered
-    ensures { outcome result heap.now roots.now
-        ≡ Calls.raw_read Layouts.tuple object field (lent heap.now roots.now «record») }
+) -> Result<Answer, Refusal>
+    ensures { kept result heap.now roots.now «record»
+        ≡ Calls.raw_read Layouts.tuple object field (state_of heap.now roots.now «record») }
 {
-    let found = reach(heap, roots, record, Kind::Untraced, object, field, object);
-    match found {
-        Field::At(index) => {
-            let at = index.0;
-            let word = heap[at];
-            say(Answer::Number(word), record)
-        }
-        Field::Refused(refusal) => say(Answer::Refused(refusal), record),
-    }
+    let found = reach(heap, roots, record, Kind::Untraced, object, field, object)?;
+    let word = heap[found.0];
+    Ok(Answer::Number(word))
 }
 
 // A field of an untraced object gets a raw word: done, or SHAPE, ROOT, OBJECT, KIND or FIELD. Leaves the
@@ -113,17 +91,11 @@ pub fn raw_write(
     object: usize,
     field: usize,
     number: u32,
-) -> Answered
-    ensures { outcome result heap.new roots.now
-        ≡ Calls.raw_write Layouts.tuple object field number (lent heap.old roots.now «record») }
+) -> Result<Answer, Refusal>
+    ensures { kept result heap.new roots.now «record»
+        ≡ Calls.raw_write Layouts.tuple object field number (state_of heap.old roots.now «record») }
 {
-    let target = reach(heap, roots, record, Kind::Untraced, object, field, object);
-    match target {
-        Field::At(index) => {
-            let at = index.0;
-            heap[at] = number;
-            say(Answer::Done, record)
-        }
-        Field::Refused(refusal) => say(Answer::Refused(refusal), record),
-    }
+    let target = reach(heap, roots, record, Kind::Untraced, object, field, object)?;
+    heap[target.0] = number;
+    Ok(Answer::Done)
 }

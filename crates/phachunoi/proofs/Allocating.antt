@@ -12,7 +12,9 @@ use Rattle.model.specs.declared.Call.TheVariants as Ask
 use Rattle.model.specs.declared.Answer.TheVariants as Says
 use Rattle.model.specs.Words.{state_of}
 use Rattle.model.specs.Headers.{tuple}
-use Rattle.model.specs.Answers.{says, outcome_of, told}
+use Rattle.std.specs.Prelude.{Ok}
+use Rattle.model.specs.Agreements.{outcome}
+use Rattle.model.specs.Answers.{says, told}
 use Rattle.model.specs.Calls.{allocate}
 use Rattle.model.specs.Sessions.{step}
 use Rattle.theory.proofs.Tests.{never}
@@ -34,7 +36,7 @@ back-there c p e = rw e
 module _ {H' R' : List ℕ} {q : Record} (k : Kind) (c : CRecord) (H R : List ℕ) (n r : ℕ) (e : q ≡ taken c) where
   -- ---- by the whole call
 
-  module _ {o : Answered} (g : outcome_of o H' R' ≡ allocate tuple k n r (state_of H R q)) where
+  module _ {o : Answered} (g : outcome o H' R' ≡ allocate tuple k n r (state_of H R q)) where
     pub whole_crosses : {a : CResult} → a ≡ result_of (told o.answer) (back c o.«record»)
         → given_of a H' R' [] ≡ called_of result_of (allocate tuple k n r) H R [] c
     unfolding step
@@ -58,11 +60,11 @@ module _ {H' R' : List ℕ} {q : Record} (k : Kind) (c : CRecord) (H R : List �
         go false z = z
         go true z = never (nowhere-bad H R) (at-once_shaped tuple k n r (state_of H R nowhere) (fitted_nowhere z))
 
-    pub at-once_crosses : {a : CResult} → a ≡ result_of (told Says.Done) (numbers_of p)
+    pub at-once_crosses : {a : CResult} → a ≡ result_of (told (Ok Says.Done)) (numbers_of p)
         → given_of a H' R' [] ≡ called_of result_of (allocate tuple k n r) H R [] c
     at-once_crosses h =
-        whole_crosses {o = record { answer = Says.Done; «record» = p }} g
-        (h ∙ ap (result_of (told Says.Done)) (back-there c p has_half))
+        whole_crosses {o = record { answer = Ok Says.Done; «record» = p }} g
+        (h ∙ ap (result_of (told (Ok Says.Done))) (back-there c p has_half))
 
     pub at-once_narrow : Narrow c.free → Narrow p.free.0
-    at-once_narrow = whole_narrow {o = record { answer = Says.Done; «record» = p }} g
+    at-once_narrow = whole_narrow {o = record { answer = Ok Says.Done; «record» = p }} g

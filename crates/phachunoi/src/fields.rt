@@ -21,9 +21,7 @@ pub extern "C" fn phachunoi_load(
     ensures { kept result heap.now roots.new «record»
         ≡ called (keeping answer_of) (Calls.load Layouts.tuple object field to) heap.now roots.old «record» }
 {
-    let done = objects::load(heap, roots, record_of(record), object, field, to);
-    let said = done.answer;
-    answer_of(said)
+    answer_of(objects::load(heap, roots, record_of(record), object, field, to))
 }
 
 // A field of a traced object gets root `from`'s word.
@@ -40,9 +38,7 @@ pub extern "C" fn phachunoi_store(
         ≡ called (keeping answer_of) (Calls.store Layouts.tuple object field from)
         heap.old roots.now «record» }
 {
-    let done = objects::store(heap, roots, record_of(record), object, field, from);
-    let said = done.answer;
-    answer_of(said)
+    answer_of(objects::store(heap, roots, record_of(record), object, field, from))
 }
 
 // The raw word in a field of an untraced object.
@@ -57,9 +53,7 @@ pub extern "C" fn phachunoi_raw_read(
     ensures { kept result heap.now roots.now «record»
         ≡ called (keeping answer_of) (Calls.raw_read Layouts.tuple object field) heap.now roots.now «record» }
 {
-    let done = objects::raw_read(heap, roots, record_of(record), object, field);
-    let said = done.answer;
-    answer_of(said)
+    answer_of(objects::raw_read(heap, roots, record_of(record), object, field))
 }
 
 // A field of an untraced object gets a raw word.
@@ -76,7 +70,5 @@ pub extern "C" fn phachunoi_raw_write(
         ≡ called (keeping answer_of) (Calls.raw_write Layouts.tuple object field number)
         heap.old roots.now «record» }
 {
-    let done = objects::raw_write(heap, roots, record_of(record), object, field, number);
-    let said = done.answer;
-    answer_of(said)
+    answer_of(objects::raw_write(heap, roots, record_of(record), object, field, number))
 }

@@ -12,6 +12,7 @@ use crossing::{
     record_of, result_of,
 };
 use model::Kind;
+use placing::at_once;
 
 // Clears all heap words; half A, free index 1. SHAPE is of the heap's length alone, and hands the record back
 // as it came.
@@ -19,9 +20,7 @@ use model::Kind;
 pub extern "C" fn phachunoi_fresh(heap: &mut [u32], record: CRecord) -> CResult
     ensures { given_of result heap.new [] [] ≡ begun heap.old «record» }
 {
-    let roots: [u32; 0] = [];
-    let done = blind::fresh(heap, &roots, record_of(record));
-    fresh_result_of(record, done)
+    fresh_result_of(record, blind::fresh(heap, &[], record_of(record)))
 }
 
 // Value 1 where the heap is sound, 0 where not; or SHAPE. It marks in the idle half, and no word differs
@@ -31,9 +30,7 @@ pub extern "C" fn phachunoi_check(heap: &mut [u32], roots: &[u32], record: CReco
     ensures { kept result heap.new roots.now «record»
         ≡ called (keeping answer_of) (Calls.check Layouts.tuple) heap.old roots.now «record» }
 {
-    let done = checker::check(heap, roots, record_of(record));
-    let said = done.answer;
-    answer_of(said)
+    answer_of(checker::check(heap, roots, record_of(record)))
 }
 
 // Live words, live objects and addresses met; or SHAPE or DAMAGED. Every object may move.
@@ -46,12 +43,30 @@ pub extern "C" fn phachunoi_collect(
     ensures { given result heap.new roots.new
         ≡ called Numbers.collected_of (Calls.collect Layouts.tuple) heap.old roots.old «record» }
 {
-    let done = collector::collect(heap, roots, record_of(record));
-    collected_of(record, done)
+    collected_of(record, collector::collect(heap, roots, record_of(record)))
 }
 
 // An allocation by the whole call. It stands by itself, so that the one which is done at once saves no
 // register for it.
+fn allocate_in_full(
+    heap: &mut [u32],
+    roots: &mut [u32],
+    record: CRecord,
+    kind: Kind,
+    fields: usize,
+    to: usize,
+) -> CResult
+    ensures { given result heap.new roots.new
+        ≡ called Numbers.result_of (Calls.allocate Layouts.tuple kind fields to) heap.old roots.old «record» }
+{
+    result_of(
+        record,
+        allocator::allocate(heap, roots, record_of(record), kind, fields, to),
+    )
+}
+
+// An allocation. Where the object fits, that is found and done here, with no answer in memory.
+#[inline(always)]
 fn allocate(
     heap: &mut [u32],
     roots: &mut [u32],
@@ -63,12 +78,15 @@ fn allocate(
     ensures { given result heap.new roots.new
         ≡ called Numbers.result_of (Calls.allocate Layouts.tuple kind fields to) heap.old roots.old «record» }
 {
-    let done = allocator::allocate(heap, roots, record_of(record), kind, fields, to);
-    result_of(record, done)
+    let taken = record_of(record);
+    if at_once::fits(heap.len(), roots.len(), taken, fields, to) {
+        return done_with(at_once::allocate(heap, roots, taken, kind, fields, to));
+    }
+    allocate_in_full(heap, roots, record, kind, fields, to)
 }
 
 // Root `to` gets a new object of values, all null; or SHAPE, ROOT, COUNT, DAMAGED or ROOM. Every object may
-// move. Where the object fits, that is found and done here, with no answer in memory.
+// move.
 #[unsafe(no_mangle)]
 pub extern "C" fn phachunoi_allocate_traced(
     heap: &mut [u32],
@@ -81,10 +99,6 @@ pub extern "C" fn phachunoi_allocate_traced(
         ≡ called Numbers.result_of (Calls.allocate Layouts.tuple Traced fields to)
         heap.old roots.old «record» }
 {
-    let taken = record_of(record);
-    if placing::at_once::fits(heap.len(), roots.len(), taken, fields, to) {
-        return done_with(placing::at_once::allocate(heap, roots, taken, Kind::Traced, fields, to));
-    }
     allocate(heap, roots, record, Kind::Traced, fields, to)
 }
 
@@ -101,16 +115,5 @@ pub extern "C" fn phachunoi_allocate_untraced(
         ≡ called Numbers.result_of (Calls.allocate Layouts.tuple Untraced fields to)
         heap.old roots.old «record» }
 {
-    let taken = record_of(record);
-    if placing::at_once::fits(heap.len(), roots.len(), taken, fields, to) {
-        return done_with(placing::at_once::allocate(
-            heap,
-            roots,
-            taken,
-            Kind::Untraced,
-            fields,
-            to,
-        ));
-    }
     allocate(heap, roots, record, Kind::Untraced, fields, to)
 }

@@ -19,9 +19,7 @@ pub extern "C" fn phachunoi_set_integer(
     ensures { kept result heap.now roots.new «record»
         ≡ called (keeping answer_of) (Calls.set_integer to value) heap.now roots.old «record» }
 {
-    let done = blind::set_integer(heap, roots, record_of(record), to, value);
-    let said = done.answer;
-    answer_of(said)
+    answer_of(blind::set_integer(heap, roots, record_of(record), to, value))
 }
 
 // Root `to` gets null; or SHAPE or ROOT.
@@ -35,9 +33,7 @@ pub extern "C" fn phachunoi_set_null(
     ensures { kept result heap.now roots.new «record»
         ≡ called (keeping answer_of) (Calls.set_null to) heap.now roots.old «record» }
 {
-    let done = blind::set_null(heap, roots, record_of(record), to);
-    let said = done.answer;
-    answer_of(said)
+    answer_of(blind::set_null(heap, roots, record_of(record), to))
 }
 
 // Root `to` gets a code word; or SHAPE, ROOT or RANGE.
@@ -52,9 +48,7 @@ pub extern "C" fn phachunoi_set_code(
     ensures { kept result heap.now roots.new «record»
         ≡ called (keeping answer_of) (Calls.set_code to word) heap.now roots.old «record» }
 {
-    let done = blind::set_code(heap, roots, record_of(record), to, word);
-    let said = done.answer;
-    answer_of(said)
+    answer_of(blind::set_code(heap, roots, record_of(record), to, word))
 }
 
 // Root `to` gets root `from`'s word; or SHAPE or ROOT.
@@ -69,9 +63,7 @@ pub extern "C" fn phachunoi_copy(
     ensures { kept result heap.now roots.new «record»
         ≡ called (keeping answer_of) (Calls.copy from to) heap.now roots.old «record» }
 {
-    let done = blind::copy(heap, roots, record_of(record), from, to);
-    let said = done.answer;
-    answer_of(said)
+    answer_of(blind::copy(heap, roots, record_of(record), from, to))
 }
 
 // Value 1 where two roots hold equal words, 0 where not; or SHAPE or ROOT.
@@ -86,9 +78,7 @@ pub extern "C" fn phachunoi_same(
     ensures { kept result heap.now roots.now «record»
         ≡ called (keeping answer_of) (Calls.same one other) heap.now roots.now «record» }
 {
-    let done = blind::same(heap, roots, record_of(record), one, other);
-    let said = done.answer;
-    answer_of(said)
+    answer_of(blind::same(heap, roots, record_of(record), one, other))
 }
 
 // What a root holds; or SHAPE, ROOT or OBJECT.
@@ -102,6 +92,5 @@ pub extern "C" fn phachunoi_inspect(
     ensures { kept result heap.now roots.now «record»
         ≡ called (keeping seen_of) (Calls.inspect Layouts.tuple root) heap.now roots.now «record» }
 {
-    let seen = views::tell(heap, roots, record_of(record), root);
-    seen_of(seen)
+    seen_of(views::tell(heap, roots, record_of(record), root))
 }

@@ -21,9 +21,7 @@ pub extern "C" fn phachunoi_write(
         ≡ called_text (keeping written_of) (Calls.write Layouts.tuple root)
         heap.now roots.now «record» text.old }
 {
-    let done = writer::write(heap, roots, record_of(record), root, text);
-    let said = done.answer;
-    written_of(said)
+    written_of(writer::write(heap, roots, record_of(record), root, text))
 }
 
 // The value of a text into root `to`; or SHAPE, ROOT, VALUE, DEEP, DAMAGED or ROOM. Every object may move.
@@ -38,6 +36,8 @@ pub extern "C" fn phachunoi_read(
     ensures { given_text result heap.new roots.new text.now
         ≡ called_text result_of (Calls.read Layouts.tuple to) heap.old roots.old «record» text.now }
 {
-    let done = reader::read(heap, roots, record_of(record), to, text);
-    result_of(record, done)
+    result_of(
+        record,
+        reader::read(heap, roots, record_of(record), to, text),
+    )
 }

@@ -20,8 +20,7 @@ pub extern "C" fn phachunoi_open(
     ensures { result
         ≡ Numbers.opened (window Layouts.tuple object) heap.now roots.now «record» }
 {
-    let place = views::place::find(heap, roots, record_of(record), object);
-    window_of(place)
+    window_of(views::place::find(heap, roots, record_of(record), object))
 }
 
 // The word at a field number; or FIELD. It goes by the window's numbers, whatever they are, and by nothing

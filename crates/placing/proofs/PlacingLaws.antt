@@ -2,27 +2,26 @@
 use Prim.Native.Nat.{ℕ, ◌+◌, ◌≤◌, ◌<◌}
 use native.Mathlib.Numerals.{add-one}
 use native.Mathlib.Omega.{arith}
-use mathlib.Core.Path.{◌≡◌, refl}
-use mathlib.Core.Bool.{Bool, true, false, cond}
-use lib.Dec.{ltb, leb}
+use mathlib.Core.Path.{◌≡◌}
+use mathlib.Core.Bool.{true, false}
 use mathlib.Core.List.{List}
 use lib.ListN.{length, set}
-use borrow.Author.Tests.{le-ltb, le-leb, lt-leb, ltb-true, ltb-false, leb-false}
+use borrow.Author.Tests.{le-ltb, le-leb, lt-leb}
 use Rattle.model.specs.declared.Kind.{Kind}
 use Rattle.model.specs.declared.Answer.TheVariants as Says
 use Rattle.model.specs.declared.Record.{Record}
-use Rattle.model.specs.Limits.{max_roots, max_fields}
-use Rattle.model.specs.Words.{State, with_heap, with_roots, with_free, half_words_of, first_of, free}
+use Rattle.model.specs.Limits.{max_fields}
+use Rattle.model.specs.Words.{State, with_heap, with_roots, with_free, free}
 use Rattle.model.specs.Headers.{Layout}
 use Rattle.model.specs.Shape.{bad_length, bad_shape_of, bad_shape}
 use Rattle.model.specs.Objects.{address}
 use Rattle.model.specs.Answers.{says, refuse}
 use Rattle.model.specs.Changes.{spare, placed}
 use Rattle.model.specs.Calls as Calls
-use Rattle.theory.proofs.Tests.{never, or-none}
 use Rattle.theory.proofs.Shape.{Shaped, shaped, good_length, first_in}
 use Rattle.runs.specs.Runs.{cleared}
 use Rattle.runs.proofs.RunLaws.{cleared-sets}
+use Rattle.std.proofs.lemmas.Bool.Decides.{nat_tests}
 use Rattle.placing.specs.Placing.{MayPlace, MaySpare, spare_of, at_once}
 
 -- ---- a new object
@@ -69,28 +68,20 @@ allocate_now Y k n r s b l c f =
 pub numbers_spare : (n roots : ℕ) (q : Record) → bad_shape_of n roots q ≡ false → MaySpare n q
 unfolding bad_shape_of
 numbers_spare n roots q h =
-    let S = half_words_of n in
-    let a = or-none _ (ltb (first_of S q.half + S) q.free.0) h in
-    let b = or-none _ (ltb q.free.0 (first_of S q.half)) a.0 in
-    let c = or-none (bad_length n) (ltb max_roots roots) b.0 in
-    let g = good_length n c.0 in
-    record { some = omega (arith, g.odd); few = omega (arith, g.odd, g.most); high = ltb-false _ _ a.1 }
-
--- a test that must fail before another holds
-not-then : (a b : Bool) → cond a false b ≡ true → (a ≡ false) × (b ≡ true)
-not-then true b h = never h refl
-not-then false b h = (refl, h)
+    let good : bad_length n ≡ false = grind (arith, nat_tests) in
+    let g = good_length n good in
+    record { some = omega (arith, g.odd); few = omega (arith, g.odd, g.most); high = grind (arith, nat_tests) }
 
 module _ (Y : Layout) (k : Kind) (n r : ℕ) (s : State)
     (e : at_once (length s.heap) (length s.roots) s.«record» n r ≡ true) where
   pub at-once_shaped : bad_shape s ≡ false
-  at-once_shaped = (not-then (bad_shape s) _ e).0
+  at-once_shaped = grind (arith, nat_tests)
 
   root : r < length s.roots
-  root = leb-false (length s.roots) r (not-then (leb (length s.roots) r) _ (not-then (bad_shape s) _ e).1).0
+  root = grind (arith, nat_tests)
 
   room : n < spare_of (length s.heap) s.«record»
-  room = ltb-true n _ (not-then (leb (length s.roots) r) _ (not-then (bad_shape s) _ e).1).1
+  room = grind (arith, nat_tests)
 
   count : n ≤ max_fields
   count = let h = shaped s at-once_shaped in omega (arith, h.small, h.low, room)

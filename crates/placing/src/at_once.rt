@@ -3,7 +3,7 @@
 ghost use Rattle.std.specs.Prelude.{◌≡◌, true, length};
 ghost use Rattle.model.specs.Headers as Layouts;
 ghost use Rattle.model.specs.Answers.{says};
-ghost use Rattle.model.specs.Agreements.{lent, leaves};
+ghost use Rattle.model.specs.Words.{state_of};
 ghost use Rattle.model.specs.declared.Answer.TheVariants as Says;
 ghost use Rattle.model.specs.Calls as Calls;
 ghost use Rattle.placing.specs.Placing.{at_once};
@@ -18,10 +18,7 @@ pub fn fits(length: usize, root_count: usize, record: Record, fields: usize, to:
     if words::shape::bad_shape(length, root_count, record) {
         return false;
     }
-    if root_count <= to {
-        return false;
-    }
-    fields < spare_of(length, record)
+    to < root_count && fields < spare_of(length, record)
 }
 
 // Such an allocation: done. Answers the new record.
@@ -34,8 +31,8 @@ pub fn allocate(
     to: usize,
 ) -> Record
     requires { at_once (length heap.old) (length roots.old) «record» fields to ≡ true }
-    ensures { says Says.Done (leaves heap.new roots.new result)
-        ≡ Calls.allocate Layouts.tuple kind fields to (lent heap.old roots.old «record») }
+    ensures { says Says.Done (state_of heap.new roots.new result)
+        ≡ Calls.allocate Layouts.tuple kind fields to (state_of heap.old roots.old «record») }
 {
     place(heap, roots, record, kind, fields, to)
 }

@@ -5,7 +5,6 @@ ghost use Rattle.std.specs.Prelude.{◌≡◌};
 ghost use Rattle.model.specs.Words.{state_of};
 ghost use Rattle.model.specs.Headers as Layouts;
 ghost use Rattle.model.specs.Changes.{placed};
-ghost use Rattle.model.specs.Agreements.{lent, leaves};
 ghost use Rattle.placing.specs.Placing.{MayPlace, MaySpare, spare_of};
 
 pub mod at_once;
@@ -19,11 +18,8 @@ pub fn spare_of(length: usize, record: Record) -> usize
     requires { MaySpare length «record» }
     ensures { result ≡ spare_of length «record» }
 {
-    let half = record.half;
-    let free = record.free.0;
     let half_words = shape::half_words(length);
-    let first = shape::first_of(half_words, half).0;
-    first + half_words - free
+    shape::first_of(half_words, record.half).0 + half_words - record.free.0
 }
 
 // Writes the header and the zeros at the free index, and the object's address into root `to`. Answers the new
@@ -37,18 +33,16 @@ pub fn place(
     to: usize,
 ) -> Record
     requires { MayPlace (state_of heap.old roots.old «record») fields to }
-    ensures { leaves heap.new roots.new result
-        ≡ placed Layouts.tuple kind fields to (lent heap.old roots.old «record») }
+    ensures { state_of heap.new roots.new result
+        ≡ placed Layouts.tuple kind fields to (state_of heap.old roots.old «record») }
 {
-    let half = record.half;
-    let free = record.free;
-    let at = free.0;
+    let at = record.free.0;
     heap[at] = Tuple::header(kind, fields);
     // The root first: fewer values are then kept across the clearing.
-    roots[to] = Tuple::address_of(free).0;
+    roots[to] = Tuple::address_of(record.free).0;
     runs::clear(heap, at + 1, fields);
     Record {
-        half,
         free: Index(at + (fields + 1)),
+        ..record
     }
 }

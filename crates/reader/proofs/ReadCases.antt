@@ -3,7 +3,10 @@ use Prim.Native.Nat.{ℕ, ◌≤◌, ◌<◌}
 use native.Mathlib.Omega.{arith}
 use mathlib.Core.Path.{◌≡◌, refl, ap, ◌∙◌}
 use mathlib.Core.Bool.{true, false}
-use mathlib.Core.List.{List}
+use mathlib.Core.List.{List, [], ◌∷◌}
+use Rattle.std.specs.Prelude.{Result, Err, ⊤}
+use Rattle.words.specs.Admits.{admits}
+use Rattle.words.proofs.Admitted.{not_admitted}
 use lib.IntN.{ℤ}
 use lib.ListN.{length}
 use borrow.Author.Tests.{le-leb, lt-leb}
@@ -19,7 +22,7 @@ use Rattle.model.specs.Soundness.{sound}
 use Rattle.model.specs.Collection.{order_at, copied, collected}
 use Rattle.model.specs.Trees.{Forest, leaf, node, tree_words}
 use Rattle.model.specs.Reading.{Parsed, tree, broken, parsed}
-use Rattle.model.specs.Answers.{Outcome, says, refuse}
+use Rattle.model.specs.Answers.{Outcome, says, refused, refuse}
 use Rattle.model.specs.Changes.{spare, with_root, planted}
 use Rattle.model.specs.Calls as Calls
 use Rattle.model.specs.Sessions.{step}
@@ -29,22 +32,19 @@ use Rattle.placing.specs.Placing.{spare_of}
 use Rattle.reader.specs.Planting.{retried}
 
 module _ (Y : Layout) (r : ℕ) (s : State) where
-  pub read-shape : bad_shape s ≡ true → says (Says.Refused Why.Shape) s ≡ Calls.read Y r s
-  unfolding Calls.read refuse
-  read-shape b = rw b
+  -- whatever `admit` says against it
+  pub read_unadmitted : {x : Result ⊤ Refusal} {k : Refusal} → x ≡ admits (r ∷ []) s → x ≡ Err k → refused k s ≡ Calls.read Y r s
+  unfolding Calls.read
+  read_unadmitted e h = not_admitted (r ∷ []) s e _ h
 
   module _ (b : bad_shape s ≡ false) where
-    pub read-root : length s.roots ≤ r → says (Says.Refused Why.Root) s ≡ Calls.read Y r s
-    unfolding Calls.read refuse
-    read-root l = rw (b, le-leb (length s.roots) r l)
-
     module _ (l : r < length s.roots) where
       -- by what the text stands for
       reads : (p : Parsed) → parsed s.text ≡ p → Calls.reads Y r s p ≡ Calls.read Y r s
       unfolding Calls.read refuse
       reads p e = rw (b, lt-leb (length s.roots) r l, e)
 
-      pub read-refused : (k : Refusal) → parsed s.text ≡ broken k → says (Says.Refused k) s ≡ Calls.read Y r s
+      pub read-refused : (k : Refusal) → parsed s.text ≡ broken k → refused k s ≡ Calls.read Y r s
       read-refused k e = reads (broken k) e
 
       pub read-tuple : (g : Forest) → parsed s.text ≡ tree (node g)
@@ -81,7 +81,7 @@ module _ (Y : Layout) (r : ℕ) (s : State) (n : ℕ) (g : Forest) (filled : n �
   unfolding retried
   room_later f = rw (lt-leb (tree_words (node g)) (spare s) (omega arith))
 
-  pub retried_damaged : sound Y s ≡ false → says (Says.Refused Why.Damaged) s ≡ retried Y g r s
+  pub retried_damaged : sound Y s ≡ false → refused Why.Damaged s ≡ retried Y g r s
   unfolding retried refuse
   retried_damaged e = rw e
 
@@ -91,7 +91,7 @@ module _ (Y : Layout) (r : ℕ) (s : State) (n : ℕ) (g : Forest) (filled : n �
     spare-is : m ≡ spare (collected Y s)
     spare-is = p ∙ ap (λ (x : State). spare x) l
 
-    pub retried-room : m < n → says (Says.Refused Why.Room) s' ≡ retried Y g r s
+    pub retried-room : m < n → refused Why.Room s' ≡ retried Y g r s
     unfolding retried refuse
     retried-room f = rw (e, l, lt-leb (tree_words (node g)) (spare (collected Y s)) (omega (arith, spare-is)))
 

@@ -7,17 +7,18 @@
 #![tactic(auto)]
 
 ghost use Rattle.std.specs.Prelude.{◌≡◌, false, ◌<◌, length};
-ghost use Rattle.model.specs.Words.{state_of};
+ghost use Rattle.model.specs.Words.{state_of, text_state_of};
 ghost use Rattle.model.specs.Headers as Layouts;
 ghost use Rattle.model.specs.Shape.{bad_shape_of};
 ghost use Rattle.model.specs.Trees.{Forest, node, tree_words};
 ghost use Rattle.model.specs.Changes.{planted};
-ghost use Rattle.model.specs.Agreements.{lent_text, leaves_text, outcome_text};
+ghost use Rattle.model.specs.Agreements.{outcome_text};
 ghost use Rattle.model.specs.Calls as Calls;
 ghost use Rattle.reader.specs.Planting.{Stands, MayPlant, retried};
 
-use model::{Answer, Answered, Index, Record, Refusal, say};
+use model::{Answer, Answered, Index, Record, Refusal};
 use reader_judging::{Judged, judge};
+use words::admission::admit;
 use words::tuple::Tuple;
 
 // The objects of a tuple's text from the free index on, and the address of the first into root `to`. The text
@@ -32,22 +33,21 @@ fn plant(
 ) -> Record
     requires { MayPlant (state_of heap.old roots.old «record») to words
         × ((g : Forest) × Stands text.now words g) }
-    ensures { (g : Forest) → Stands text.now words g → leaves_text heap.new roots.new result text.now
-        ≡ planted Layouts.tuple (node g) to (lent_text heap.old roots.old «record» text.now) }
+    ensures { (g : Forest) → Stands text.now words g → text_state_of heap.new roots.new result text.now
+        ≡ planted Layouts.tuple (node g) to (text_state_of heap.old roots.old «record» text.now) }
 {
-    let half = record.half;
     let free = record.free;
-    let at = free.0;
-    reader_placing::lay(heap, text, at, words);
+    reader_placing::lay(heap, text, free.0, words);
     roots[to] = Tuple::address_of(free).0;
     Record {
-        half,
-        free: Index(at + words),
+        half: record.half,
+        free: Index(free.0 + words),
     }
 }
 
 // After a collection: done, DAMAGED with nothing changed, or ROOM with the heap collected. All roots count as
-// live in it, also what root `to` still holds.
+// live in it, also what root `to` still holds. It is not shared with `allocator`: here
+// must-fail/root_dead_in_its_own_read leaves out roots by this call's own number.
 fn retry(
     heap: &mut [u32],
     roots: &mut [u32],
@@ -58,19 +58,18 @@ fn retry(
 ) -> Answered
     requires { (to < length roots.old) × ((g : Forest) × Stands text.now words g) }
     ensures { (g : Forest) → Stands text.now words g → outcome_text result heap.new roots.new text.now
-        ≡ retried Layouts.tuple g to (lent_text heap.old roots.old «record» text.now) }
+        ≡ retried Layouts.tuple g to (text_state_of heap.old roots.old «record» text.now) }
 {
     if checker::is_sound(heap, roots, record) {
         let all = roots.len();
-        let done = engine::collect_among(heap, roots, all, record);
-        let after = done.record;
+        let after = engine::collect_among(heap, roots, all, record).record;
         if words <= placing::spare_of(heap.len(), after) {
             let planted = plant(heap, roots, after, to, text, words);
-            return say(Answer::Done, planted);
+            return Answered::say(Answer::Done, planted);
         }
-        return say(Answer::Refused(Refusal::Room), after);
+        return Answered::refuse(Refusal::Room, after);
     }
-    say(Answer::Refused(Refusal::Damaged), record)
+    Answered::refuse(Refusal::Damaged, record)
 }
 
 // A tuple's text, at once where its words are free, and else after a collection.
@@ -86,11 +85,11 @@ fn read_tuple(
         × (to < length roots.old) × ((g : Forest) × Stands text.now words g) }
     ensures { (g : Forest) → Stands text.now words g → outcome_text result heap.new roots.new text.now
         ≡ Calls.with_room Layouts.tuple (tree_words (node g)) (planted Layouts.tuple (node g) to)
-        (lent_text heap.old roots.old «record» text.now) }
+        (text_state_of heap.old roots.old «record» text.now) }
 {
     if words <= placing::spare_of(heap.len(), record) {
         let planted = plant(heap, roots, record, to, text, words);
-        return say(Answer::Done, planted);
+        return Answered::say(Answer::Done, planted);
     }
     retry(heap, roots, record, to, text, words)
 }
@@ -100,18 +99,17 @@ fn read_tuple(
 // every object may move, also where the answer is ROOM.
 pub fn read(heap: &mut [u32], roots: &mut [u32], record: Record, to: usize, text: &[u8]) -> Answered
     ensures { outcome_text result heap.new roots.new text.now
-        ≡ Calls.read Layouts.tuple to (lent_text heap.old roots.old «record» text.now) }
+        ≡ Calls.read Layouts.tuple to (text_state_of heap.old roots.old «record» text.now) }
 {
-    if words::shape::bad_shape(heap.len(), roots.len(), record) {
-        return say(Answer::Refused(Refusal::Shape), record);
+    if let Err(refusal) = admit(heap, roots, record, to) {
+        return Answered::refuse(refusal, record);
     }
-    if roots.len() <= to {
-        return say(Answer::Refused(Refusal::Root), record);
-    }
-    let judged = judge(text);
-    match judged {
-        Judged::Integer(value) => blind::set_integer(heap, roots, record, to, value as i64),
-        Judged::Tuple(words) => read_tuple(heap, roots, record, to, text, words),
-        Judged::Refused(why) => say(Answer::Refused(why), record),
+    match judge(text) {
+        Ok(Judged::Integer(value)) => Answered {
+            answer: blind::set_integer(heap, roots, record, to, value as i64),
+            record,
+        },
+        Ok(Judged::Tuple(words)) => read_tuple(heap, roots, record, to, text, words),
+        Err(why) => Answered::refuse(why, record),
     }
 }

@@ -13,10 +13,12 @@ use Rattle.model.specs.ReadFaults as Faults
 use Rattle.model.specs.Reading.{Open, brace, height, start, braced, numbered, whole, go, begin}
 use Rattle.theory.proofs.Tests.{never}
 use Rattle.reader_numerals.specs.Numerals.{rest}
-use Rattle.reader_judging.specs.Places.{braces, wrapped, OpensOne, Opened, Closed, Reads}
+use Rattle.model.specs.declared.Refusal.{Refusal}
+use Rattle.model.specs.declared.Refusal.TheVariants as Why
+use Rattle.reader_judging.specs.Places.{braces, wrapped, OpensOne, Opened, Closed, Refuses, Whole}
 use Rattle.reader_numerals.proofs.Steps.{step_to}
 use Rattle.reader_judging.proofs.Forests.{one-words}
-use Rattle.reader_judging.proofs.Sorts.{missing, refused}
+use Rattle.reader_judging.proofs.Sorts.{missing}
 
 begin-brace : (o : Open) (b : ℕ) → b ≡ 123 → height o < max_depth → begin max_depth o b ≡ go (braced o)
 begin-brace o b e h = rw (e, lt-leb max_depth (height o) h)
@@ -24,12 +26,20 @@ begin-brace o b e h = rw (e, lt-leb max_depth (height o) h)
 -- ---- "{1="
 
 module _ (t : List ℕ) (at : ℕ) where
+  -- "{" is not
+  pub no_brace : (r : Bool) → r ≡ false → (at < length t → get_or t at 0 ≡ 123 → ⊥) → OpensOne t at r
+  no_brace r f z = record {
+    within = λ e. never e f;
+    leads = λ e. never e f;
+    stuck = λ _ h b o l. absurd (z h b);
+  }
+
   module _ (h : at < length t) (b : get_or t at 0 ≡ 123) where
     -- "1" is not
-    pub no_one : (at + 1 < length t → get_or t (at + 1) 0 ≡ 49 → ⊥) → OpensOne t at false
-    no_one z = record {
-      within = λ e. never e refl;
-      leads = λ e. never e refl;
+    pub no_one : (r : Bool) → r ≡ false → (at + 1 < length t → get_or t (at + 1) 0 ≡ 49 → ⊥) → OpensOne t at r
+    no_one r f z = record {
+      within = λ e. never e f;
+      leads = λ e. never e f;
       stuck = λ _ _ _ o l.
           step_to t (go (start o)) (go (braced o)) at h (begin-brace o _ b l)
           ∙ missing t (go (braced o)) (at + 1) (omega arith) refl (λ i. simp (ne_eqb (get_or t (at + 1) 0) 49 (z i)));
@@ -73,90 +83,104 @@ unfolding wrapped
 wrapped-next k j x e = rw e
 
 -- k of them so far
-pub record Opening (t : List ℕ) (at d place k : ℕ) : Type 0 where
+pub record Opening (t : List ℕ) (at d k : ℕ) : Type 0 where
   pub most : k ≤ d
-  pub is : place ≡ at + 3 * k
-  pub within : place ≤ length t
-  pub leads : (o : Open) → height o + d ≡ max_depth → rest t (go (start o)) at ≡ rest t (go (start (braces k o))) place
+  pub within : at + 3 * k ≤ length t
+  pub leads : (o : Open) → height o + d ≡ max_depth → rest t (go (start o)) at ≡ rest t (go (start (braces k o))) (at + 3 * k)
 
 module _ (t : List ℕ) (at d : ℕ) where
-  pub none-opened : at ≤ length t → Opening t at d at 0
+  pub none-opened : at ≤ length t → Opening t at d 0
   unfolding braces
-  none-opened h = record { most = omega arith; is = omega arith; within = h; leads = λ o q. refl }
+  none-opened h =
+      let e : at + 3 * 0 ≡ at = omega arith in
+      record { most = omega arith; within = omega arith; leads = λ o q. ap (λ (i : ℕ). rest t (go (start o)) i) (sym e) }
 
-  module _ (place k : ℕ) (so : Opening t at d place k) where
-    pub one-opened : (r : Bool) → OpensOne t place r → r ≡ true → k < d → Opening t at d (place + 3) (k + 1)
+  module _ (k : ℕ) (so : Opening t at d k) where
+    pub one-opened : (r : Bool) → OpensOne t (at + 3 * k) r → r ≡ true → k < d → Opening t at d (k + 1)
     one-opened r one e m = record {
       most = omega arith;
-      is = omega (arith, so.is);
-      within = one.within e;
+      within = omega (arith, one.within e);
       leads = λ o q.
           so.leads o q
           ∙ one.leads e (braces k o) (omega (arith, height-braces k o))
-          ∙ ap (λ (p : Open). rest t (go (start p)) (place + 3)) (sym (braces-next k (k + 1) o (add-one k)));
+          ∙ ap (λ (p : Open). rest t (go (start p)) (at + 3 * k + 3)) (sym (braces-next k (k + 1) o (add-one k)))
+          ∙ ap (λ (i : ℕ). rest t (go (start (braces (k + 1) o))) i) (let f : at + 3 * k + 3 ≡ at + 3 * (k + 1) = omega arith in f);
+    }
+
+    pub no_more-opened : OpensOne t (at + 3 * k) false → Opened t at d k
+    no_more-opened one = record {
+      most = so.most;
+      within = so.within;
+      leads = so.leads;
+      stuck = record { stuck = λ _ h b o l. one.stuck refl h b o l };
+    }
+
+    pub all-opened : k ≡ d → Opened t at d k
+    all-opened e = record {
+      most = so.most;
+      within = so.within;
+      leads = so.leads;
+      stuck = record { stuck = λ more _ _ _ _. absurd (omega arith) };
     }
 
 -- ---- "}"
 
--- all but `left` of k closers
-pub record Closing (t : List ℕ) (at k place left : ℕ) : Type 0 where
-  pub most : left ≤ k
-  pub is : place + left ≡ at + k
-  pub within : place ≤ length t
+-- j of k closers
+pub record Closing (t : List ℕ) (at k j : ℕ) : Type 0 where
+  pub within : at + j ≤ length t
   pub leads : (x : Tree) (o : Open)
-      → rest t (go (whole x (braces k o))) at ≡ rest t (go (whole (wrapped (k - left) x) (braces left o))) place
+      → rest t (go (whole x (braces k o))) at ≡ rest t (go (whole (wrapped j x) (braces (k - j) o))) (at + j)
 
-module _ (t : List ℕ) (at k : ℕ) (some : 0 < at) where
-  pub none_closed : at ≤ length t → Closing t at k at k
+module _ (t : List ℕ) (at k : ℕ) where
+  pub none_closed : at ≤ length t → Closing t at k 0
   unfolding wrapped
   none_closed h =
-      let e : k - k ≡ 0 = omega arith in
+      let e : at + 0 ≡ at = omega arith in
+      let f : k - 0 ≡ k = omega arith in
       record {
-        most = omega arith;
-        is = refl;
-        within = h;
-        leads = λ x o. ap (λ (i : ℕ). rest t (go (whole (wrapped i x) (braces k o))) at) (sym e);
+        within = omega arith;
+        leads = λ x o.
+            ap (λ (i : ℕ). rest t (go (whole x (braces k o))) i) (sym e)
+            ∙ ap (λ (i : ℕ). rest t (go (whole x (braces i o))) (at + 0)) (sym f);
       }
 
-  module _ (place left : ℕ) (so : Closing t at k place left) where
-    pub no_closer : 0 < left → (place < length t → get_or t place 0 ≡ 125 → ⊥) → Closed t at k 0
+  module _ (j : ℕ) (so : Closing t at k j) where
+    next : (x : Tree) (o : Open) → j < k
+        → rest t (go (whole (wrapped j x) (braces (k - j) o))) (at + j) ≡ rest t (go (whole (wrapped j x) (brace (braces (k - (j + 1)) o)))) (at + j)
+    next x o m =
+        ap (λ (p : Open). rest t (go (whole (wrapped j x) p)) (at + j)) (braces-next (k - (j + 1)) (k - j) o (omega arith))
+
+    pub no_closer : j < k → (at + j < length t → get_or t (at + j) 0 ≡ 125 → ⊥) → Closed t at k false
     no_closer m z = record {
       stops = λ _ x o.
-          so.leads x o
-          ∙ ap (λ (p : Open). rest t (go (whole (wrapped (k - left) x) p)) place) (braces-next (left - 1) left o (omega arith))
-          ∙ missing t (go (whole (wrapped (k - left) x) (brace (braces (left - 1) o)))) place so.within refl
-          (λ h. simp (ne_eqb (get_or t place 0) 125 (z h)));
-      is = λ e. absurd (e refl);
-      within = omega arith;
-      leads = λ e. absurd (e refl);
+          so.leads x o ∙ next x o m
+          ∙ missing t (go (whole (wrapped j x) (brace (braces (k - (j + 1)) o)))) (at + j) so.within refl
+          (λ h. simp (ne_eqb (get_or t (at + j) 0) 125 (z h)));
+      within = λ e. never e refl;
+      leads = λ e. never e refl;
     }
 
-    pub one_closed : 0 < left → place < length t → get_or t place 0 ≡ 125 → Closing t at k (place + 1) (left - 1)
+    pub one_closed : j < k → at + j < length t → get_or t (at + j) 0 ≡ 125 → Closing t at k (j + 1)
     one_closed m h b = record {
-      most = omega (arith, so.most);
-      is = omega (arith, so.is);
       within = omega arith;
       leads = λ x o.
-          so.leads x o
-          ∙ ap (λ (p : Open). rest t (go (whole (wrapped (k - left) x) p)) place) (braces-next (left - 1) left o (omega arith))
-          ∙ step_to t (go (whole (wrapped (k - left) x) (brace (braces (left - 1) o)))) _ place h (rw b)
-          ∙ ap (λ (y : Tree). rest t (go (whole y (braces (left - 1) o))) (place + 1))
-          (sym (wrapped-next (k - left) (k - (left - 1)) x (omega (arith, so.most))));
+          so.leads x o ∙ next x o m
+          ∙ step_to t (go (whole (wrapped j x) (brace (braces (k - (j + 1)) o)))) _ (at + j) h (rw b)
+          ∙ ap (λ (y : Tree). rest t (go (whole y (braces (k - (j + 1)) o))) (at + j + 1)) (sym (wrapped-next j (j + 1) x (add-one j)))
+          ∙ ap (λ (i : ℕ). rest t (go (whole (wrapped (j + 1) x) (braces (k - (j + 1)) o))) i) (let e : at + j + 1 ≡ at + (j + 1) = omega arith in e);
     }
 
-    pub all_closed : left ≤ 0 → Closed t at k place
+    pub all_closed : j ≡ k → Closed t at k true
     unfolding braces
-    all_closed h =
-        let e : left ≡ 0 = omega arith in
-        let f : k - left ≡ k = omega arith in
+    all_closed e =
+        let f : k - j ≡ 0 = omega arith in
         record {
-          stops = λ z. absurd (omega (arith, so.is));
-          is = λ _. omega (arith, so.is);
-          within = so.within;
+          stops = λ z. never refl z;
+          within = λ _. omega (arith, so.within);
           leads = λ _ x o.
               so.leads x o
-              ∙ ap (λ (i : ℕ). rest t (go (whole (wrapped (k - left) x) (braces i o))) place) e
-              ∙ ap (λ (i : ℕ). rest t (go (whole (wrapped i x) o)) place) f;
+              ∙ ap (λ (i : ℕ). rest t (go (whole (wrapped j x) (braces i o))) (at + j)) f
+              ∙ ap (λ (i : ℕ). rest t (go (whole (wrapped i x) o)) (at + i)) e;
         }
 
 -- ---- all of it
@@ -173,35 +197,26 @@ module _ (d : ℕ) (t : List ℕ) (at w k : ℕ) (opened : Opened t at d k) wher
   into : (o : Open) → height o + (d + 0) ≡ max_depth → rest t (go (start o)) at ≡ rest t (go (start (braces k o))) (at + 3 * k)
   into o q = opened.leads o (omega arith)
 
-  module _ (p u : ℕ) (read : Reads start 0 (d - k) t (at + 3 * k) w p u) where
-    pub no_inner : (r w' : ℕ) → p ≡ 0 → r ≡ 0 → w' ≡ u → Reads start 0 d t at w r w'
-    no_inner r w' e f g = refused start 0 d t at w r w' u f g (λ o q. into o q ∙ read.stops e (braces k o) (inside o q))
+  pub no_inner : (why : Refusal) → Refuses start 0 (d - k) t (at + 3 * k) why → Refuses start 0 d t at why
+  no_inner why read = record { stops = λ o q. into o q ∙ read.stops (braces k o) (inside o q) }
 
-    module _ (z : p ≡ 0 → ⊥) where
-      module _ (r : ℕ) (closed : Closed t p k r) where
-        pub not_closed : (s w' : ℕ) → r ≡ 0 → s ≡ 0 → w' ≡ 10 → Reads start 0 d t at w s w'
-        not_closed s w' e f g =
-            let y = read.comes z in
-            refused start 0 d t at w s w' 10 f g
-            (λ o q. into o q ∙ y.leads (braces k o) (inside o q) ∙ closed.stops e y.stood o)
+  module _ (p u : ℕ) (y : Whole start 0 (d - k) t (at + 3 * k) w p u) where
+    pub not_closed : (b : Bool) → Closed t p k b → b ≡ false → Refuses start 0 d t at Why.Value
+    not_closed b closed e = record { stops = λ o q. into o q ∙ y.leads (braces k o) (inside o q) ∙ closed.stops e y.stood o }
 
-        pub a_chain : (w' : ℕ) → (r ≡ 0 → ⊥) → w' ≡ u + 2 * k → Reads start 0 d t at w r w'
-        a_chain w' c f =
-            let y = read.comes z in
-            let ww = wrapped-words k y.stood in
-            let e = closed.is c in
-            record {
-              stops = λ q. absurd (c q);
-              comes = λ _. record {
-                stood = wrapped k y.stood;
-                beyond = omega (arith, y.beyond);
-                within = closed.within;
-                words = omega (arith, y.words);
-                words_fit = omega (arith, y.words_fit);
-                alone = λ q.
-                    let none : k ≡ 0 = omega arith in
-                    let here : at + 3 * k ≡ at = omega arith in
-                    (refl, ap (λ (i : ℕ). Faults.opens (get_or t i 0)) (sym here) ∙ (y.alone (omega arith)).1);
-                leads = λ o q. into o q ∙ y.leads (braces k o) (inside o q) ∙ closed.leads c y.stood o;
-              };
-            }
+    pub a_chain : (b : Bool) → Closed t p k b → b ≡ true → (r w' : ℕ) → r ≡ p + k → w' ≡ u + 2 * k → Whole start 0 d t at w r w'
+    a_chain b closed e r w' g f =
+        let ww = wrapped-words k y.stood in
+        record {
+          stood = wrapped k y.stood;
+          beyond = omega (arith, y.beyond);
+          within = omega (arith, closed.within e);
+          words = omega (arith, y.words);
+          words_fit = omega (arith, y.words_fit);
+          alone = λ q.
+              let none : k ≡ 0 = omega arith in
+              let here : at + 3 * k ≡ at = omega arith in
+              (refl, ap (λ (i : ℕ). Faults.opens (get_or t i 0)) (sym here) ∙ (y.alone (omega arith)).1);
+          leads = λ o q. into o q ∙ y.leads (braces k o) (inside o q) ∙ closed.leads e y.stood o
+              ∙ ap (λ (i : ℕ). rest t (go (whole (wrapped k y.stood) o)) i) (sym g);
+        }

@@ -2,13 +2,14 @@
 use Prim.Native.Nat.{ℕ, ◌+◌, ◌-◌, ◌≤◌, ◌<◌}
 use native.Mathlib.Omega.{arith}
 use native.Mathlib.Nat.{pos_of_ne-zero}
-use mathlib.Core.Path.{◌≡◌, refl, sym, ap, ◌∙◌}
+use mathlib.Core.Path.{◌≡◌, refl, sym, subst, ◌∙◌}
 use mathlib.Core.Logic.{⊎_elim}
 use mathlib.Core.Bool.{true, false}
 use mathlib.Core.List.{List}
 use lib.Dec.{eqb}
 use lib.ListN.{length, get_or}
 use borrow.Author.Tests.{le-leb, lt-leb, eqb-true}
+use Rattle.model.specs.declared.Refusal.{Refusal}
 use Rattle.model.specs.declared.Refusal.TheVariants as Why
 use Rattle.model.specs.Texts.{max_depth}
 use Rattle.model.specs.Trees.{leaf}
@@ -16,8 +17,10 @@ use Rattle.model.specs.ReadFaults as Faults
 use Rattle.model.specs.Reading.{Open, height, Mode, start, opened, Next, go, bad, signed}
 use Rattle.model.specs.Reading.{begin, onward, stopped, broken}
 use Rattle.theory.proofs.Tests.{decide, or_cases}
-use Rattle.reader_numerals.specs.Numerals.{rest, negative, Numeral}
-use Rattle.reader_judging.specs.Places.{why_of, Stuck, Reads}
+use Rattle.std.specs.Prelude.{Option, Some, None, MatchOption}
+use Rattle.reader_numerals.specs.Numerals.{rest, negative, NumeralRead, NoNumeral}
+use Rattle.reader_judging.specs.declared.values.Found.{Found}
+use Rattle.reader_judging.specs.Places.{Stuck, Whole, Refuses, Reads}
 use Rattle.reader_numerals.proofs.Steps.{step_to, step-bad, at-end}
 
 -- what no byte that stands at a place may follow
@@ -29,13 +32,17 @@ missing t x at within e f =
     (λ (h : length t ≤ at). at-end t x at (omega arith) ∙ e)
     (decide at (length t))
 
--- a refusal by its number
-pub refused : (m : Open → Mode) (s d : ℕ) (t : List ℕ) (at w r w' k : ℕ) → r ≡ 0 → w' ≡ k
-    → ((o : Open) → height o + (d + s) ≡ max_depth → rest t (go (m o)) at ≡ broken (why_of k)) → Reads m s d t at w r w'
-refused m s d t at w r w' k e f g = record {
-  stops = λ _ o q. g o q ∙ ap (λ (i : ℕ). broken (why_of i)) (sym f);
-  comes = λ z. absurd (z e);
-}
+-- one answer's promise from another's
+pub answered : {A : Type 0} {P P' : Type 0} {Q Q' : A → Type 0} (r : Option A) → (P → P') → ((x : A) → Q x → Q' x) → MatchOption r P Q → MatchOption r P' Q'
+answered None f g h = f h
+answered (Some x) f g h = g x h
+
+-- nothing was answered, and why is noted
+pub refused : (m : Open → Mode) (s d : ℕ) (t : List ℕ) (at w : ℕ) (r : Option ℕ) (f : Found) (k : Refusal) → Refuses m s d t at k → r ≡ None
+    → f.why ≡ k → Reads m s d t at w r f
+refused m s d t at w r f k none e g =
+    let noted = subst (λ (j : Refusal). Refuses m s d t at j) (sym g) none in
+    rw e noted
 
 begin-deep : (o : Open) (b : ℕ) → Faults.opens b ≡ true → max_depth ≤ height o → begin max_depth o b ≡ bad Why.Deep
 begin-deep o b e h =
@@ -55,56 +62,49 @@ opener-brace b k z =
     (λ (p : eqb b 123 ≡ true). eqb-true b 123 p)
     (or_cases (eqb b 40) (eqb b 123) k)
 
-module _ (d : ℕ) (t : List ℕ) (at w r w' : ℕ) where
-  pub nothing : at ≡ length t → r ≡ 0 → w' ≡ 10 → Reads start 0 d t at w r w'
-  nothing e f g = refused start 0 d t at w r w' 10 f g (λ o q. at-end t (go (start o)) at e)
+module _ (d : ℕ) (t : List ℕ) (at : ℕ) where
+  pub nothing : at ≡ length t → Refuses start 0 d t at Why.Value
+  nothing e = record { stops = λ o q. at-end t (go (start o)) at e }
 
-  pub no_integer : (i m : ℕ) → Numeral t at i m → i ≡ 0 → r ≡ 0 → w' ≡ 10 → Reads start 0 d t at w r w'
-  no_integer i m read e f g = refused start 0 d t at w r w' 10 f g (λ o q. read.stops e o)
+  pub no_integer : NoNumeral t at → Refuses start 0 d t at Why.Value
+  no_integer none = record { stops = λ o q. none.stops o }
 
-  pub an_integer : (m : ℕ) → Faults.opens (get_or t at 0) ≡ false → Numeral t at r m → (r ≡ 0 → ⊥) → w' ≡ w
-      → Reads start 0 d t at w r w'
-  an_integer m k read z f =
-      let q = read.comes z in
-      record {
-        stops = λ e. absurd (z e);
-        comes = λ _. record {
-          stood = leaf (signed (negative t at) m);
-          beyond = q.beyond;
-          within = q.within;
-          words = omega arith;
-          words_fit = omega (arith, q.beyond);
-          alone = λ _. (refl, k);
-          leads = λ o _. q.leads o;
-        };
-      }
+  pub an_integer : (w r n : ℕ) → Faults.opens (get_or t at 0) ≡ false → NumeralRead t at r n → Whole start 0 d t at w r w
+  an_integer w r n k q = record {
+    stood = leaf (signed (negative t at) n);
+    beyond = q.beyond;
+    within = q.within;
+    words = omega arith;
+    words_fit = omega (arith, q.beyond);
+    alone = λ _. (refl, k);
+    leads = λ o _. q.leads o;
+  }
 
-  pub too_deep : at < length t → Faults.opens (get_or t at 0) ≡ true → d ≡ 0 → r ≡ 0 → w' ≡ 11 → Reads start 0 d t at w r w'
-  too_deep h k e f g =
-      refused start 0 d t at w r w' 11 f g
-      (λ o q. step-bad t (go (start o)) Why.Deep at h (begin-deep o (get_or t at 0) k (omega arith)))
+  pub too_deep : at < length t → Faults.opens (get_or t at 0) ≡ true → d ≡ 0 → Refuses start 0 d t at Why.Deep
+  too_deep h k e = record {
+    stops = λ o q. step-bad t (go (start o)) Why.Deep at h (begin-deep o (get_or t at 0) k (omega arith));
+  }
 
   -- "{" where no tuple of one field begins
   pub stuck : at < length t → Faults.opens (get_or t at 0) ≡ true → (get_or t at 0 ≡ 40 → ⊥) → (d ≡ 0 → ⊥) → Stuck t at d
-      → r ≡ 0 → w' ≡ 10 → Reads start 0 d t at w r w'
-  stuck h k z some s f g =
+      → Refuses start 0 d t at Why.Value
+  stuck h k z some s =
       let more = pos_of_ne-zero some in
-      refused start 0 d t at w r w' 10 f g (λ o q. s.stuck more h (opener-brace (get_or t at 0) k z) o (omega arith))
+      record { stops = λ o q. s.stuck more h (opener-brace (get_or t at 0) k z) o (omega arith) }
 
   -- what is opened is a tuple, by its first byte
-  pub a_tuple : at < length t → (d ≡ 0 → ⊥) → get_or t at 0 ≡ 40 → Reads opened 1 (d - 1) t (at + 1) w r w'
-      → Reads start 0 d t at w r w'
-  a_tuple h some b read =
+  pub a_tuple : at < length t → (d ≡ 0 → ⊥) → get_or t at 0 ≡ 40 → (w : ℕ) (r : Option ℕ) (f : Found) → Reads opened 1 (d - 1) t (at + 1) w r f
+      → Reads start 0 d t at w r f
+  a_tuple h some b w r f =
       let more = pos_of_ne-zero some in
-      record {
-        stops = λ e o q. step_to t (go (start o)) (go (opened o)) at h (begin-paren o _ b (omega arith)) ∙ read.stops e o (omega arith);
-        comes = λ z. let y = read.comes z in record {
-          stood = y.stood;
-          beyond = omega (arith, y.beyond);
-          within = y.within;
-          words = y.words;
-          words_fit = omega (arith, y.words_fit);
-          alone = λ e. absurd (omega (arith, (y.alone e).0));
-          leads = λ o q. step_to t (go (start o)) (go (opened o)) at h (begin-paren o _ b (omega arith)) ∙ y.leads o (omega arith);
-        };
-      }
+      answered r
+      (λ read. record { stops = λ o q. step_to t (go (start o)) (go (opened o)) at h (begin-paren o _ b (omega arith)) ∙ read.stops o (omega arith) })
+      (λ p y. record {
+        stood = y.stood;
+        beyond = omega (arith, y.beyond);
+        within = y.within;
+        words = y.words;
+        words_fit = omega (arith, y.words_fit);
+        alone = λ e. absurd (omega (arith, (y.alone e).0));
+        leads = λ o q. step_to t (go (start o)) (go (opened o)) at h (begin-paren o _ b (omega arith)) ∙ y.leads o (omega arith);
+      })

@@ -1,6 +1,6 @@
--- What the readers of values and tuples answer, from a place in the bytes: the place behind, of which 0 is a refusal. Each is said as
+-- What the readers of values and tuples answer, from a place in the bytes: the place behind, or why there is none. Each is said as
 -- `reader_numerals` says it of integers.
-use Rattle.std.specs.Prelude.{ℕ, zero, suc, ◌+◌, ◌-◌, ◌*◌, ◌≤◌, ◌<◌, ◌≡◌, Bool, true, false, cond, List, eqb, length, get_or}
+use Rattle.std.specs.Prelude.{ℕ, zero, suc, ◌+◌, ◌-◌, ◌*◌, ◌≤◌, ◌<◌, ◌≡◌, Bool, true, false, List, length, get_or, Option, MatchOption}
 use Rattle.model.specs.declared.Refusal.{Refusal}
 use Rattle.model.specs.declared.Refusal.TheVariants as Why
 use Rattle.model.specs.Texts.{closer, max_depth}
@@ -8,10 +8,7 @@ use Rattle.model.specs.Trees.{end, Tree, node, then, tree_words}
 use Rattle.model.specs.ReadFaults as Faults
 use Rattle.model.specs.Reading.{Open, brace, height, Mode, start, whole, go, broken}
 use Rattle.reader_numerals.specs.Numerals.{rest}
-
--- a refusal by its number
-abbrev pub why_of : ℕ → Refusal
-why_of n = cond (eqb n 11) Why.Deep Why.Value
+use Rattle.reader_judging.specs.declared.values.Found.{Found}
 
 -- before a place, behind s bytes that open a tuple, so many words may have been counted
 pub record Room (s : ℕ) (t : List ℕ) (at w : ℕ) : Type 0 where
@@ -26,15 +23,25 @@ pub record Tupled (t : List ℕ) (first w : ℕ) : Type 0 where
   pub words : w ≡ 0
 
 -- of a closer at a place, behind so many fields
-pub record Closes (t : List ℕ) (at fields w r w' : ℕ) : Type 0 where
-  pub stops : r ≡ 0 → ((2 ≤ fields) → (at < length t) → (get_or t at 0 ≡ closer) → ⊥) × (w' ≡ 10)
-  pub comes : (r ≡ 0 → ⊥) → (2 ≤ fields) × (at < length t) × (get_or t at 0 ≡ closer) × (r ≡ at + 1)
-      × (w' ≡ w + (fields + 1))
+pub record ClosesAt (t : List ℕ) (at fields w p w' : ℕ) : Type 0 where
+  pub two : 2 ≤ fields
+  pub within : at < length t
+  pub is : get_or t at 0 ≡ closer
+  pub behind : p ≡ at + 1
+  pub words : w' ≡ w + (fields + 1)
 
--- from what was read before, m, with d levels left behind s bytes that open a tuple; words counted before and after
-module _ (m : Open → Mode) (s d : ℕ) (t : List ℕ) (at w r w' : ℕ) where
-  -- a tree. It takes no more words than it has bytes; an integer, which takes none, has no opener.
-  pub record Whole : Type 0 where
+pub record NoCloser (t : List ℕ) (at fields : ℕ) (why : Refusal) : Type 0 where
+  pub none : (2 ≤ fields) → (at < length t) → (get_or t at 0 ≡ closer) → ⊥
+  pub is : why ≡ Why.Value
+
+abbrev pub Closes : List ℕ → ℕ → ℕ → ℕ → Option ℕ → Found → Type 0
+Closes t at fields w r f = MatchOption r (NoCloser t at fields f.why) (λ p. ClosesAt t at fields w p f.words)
+
+-- from what was read before, m, with d levels left behind s bytes that open a tuple
+module _ (m : Open → Mode) (s d : ℕ) (t : List ℕ) (at : ℕ) where
+  -- a tree, up to r; words counted before and after. It takes no more words than it has bytes; an integer, which takes none, has no
+  -- opener.
+  pub record Whole (w r w' : ℕ) : Type 0 where
     pub stood : Tree
     pub beyond : at < r
     pub within : r ≤ length t
@@ -44,9 +51,11 @@ module _ (m : Open → Mode) (s d : ℕ) (t : List ℕ) (at w r w' : ℕ) where
     pub leads : (o : Open) → height o + (d + s) ≡ max_depth → rest t (go (m o)) at ≡ rest t (go (whole stood o)) r
 
   -- or why there is none
-  pub record Reads : Type 0 where
-    pub stops : r ≡ 0 → (o : Open) → height o + (d + s) ≡ max_depth → rest t (go (m o)) at ≡ broken (why_of w')
-    pub comes : (r ≡ 0 → ⊥) → Whole
+  pub record Refuses (why : Refusal) : Type 0 where
+    pub stops : (o : Open) → height o + (d + s) ≡ max_depth → rest t (go (m o)) at ≡ broken why
+
+  abbrev pub Reads : ℕ → Option ℕ → Found → Type 0
+  Reads w r f = MatchOption r (Refuses f.why) (λ p. Whole w p f.words)
 
 -- ---- tuples of one field that stand in each other
 
@@ -75,9 +84,8 @@ pub record Opened (t : List ℕ) (at d k : ℕ) : Type 0 where
   pub leads : (o : Open) → height o + d ≡ max_depth → rest t (go (start o)) at ≡ rest t (go (start (braces k o))) (at + 3 * k)
   pub stuck : Stuck t (at + 3 * k) (d - k)
 
--- the closers of k of them
-pub record Closed (t : List ℕ) (at k r : ℕ) : Type 0 where
-  pub stops : r ≡ 0 → (x : Tree) (o : Open) → rest t (go (whole x (braces k o))) at ≡ broken Why.Value
-  pub is : (r ≡ 0 → ⊥) → r ≡ at + k
-  pub within : r ≤ length t
-  pub leads : (r ≡ 0 → ⊥) → (x : Tree) (o : Open) → rest t (go (whole x (braces k o))) at ≡ rest t (go (whole (wrapped k x) o)) r
+-- whether the closers of k of them stand there
+pub record Closed (t : List ℕ) (at k : ℕ) (r : Bool) : Type 0 where
+  pub stops : r ≡ false → (x : Tree) (o : Open) → rest t (go (whole x (braces k o))) at ≡ broken Why.Value
+  pub within : r ≡ true → at + k ≤ length t
+  pub leads : r ≡ true → (x : Tree) (o : Open) → rest t (go (whole x (braces k o))) at ≡ rest t (go (whole (wrapped k x) o)) (at + k)

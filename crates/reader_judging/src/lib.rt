@@ -7,22 +7,22 @@ ghost use Rattle.model.specs.Reading.{parsed, most_digits, signed};
 ghost use Rattle.reader_judging.specs.Judging.{judged_of};
 
 use model::Refusal;
-use reader_numerals::{MINUS, integer};
+use reader_numerals::integer;
+use words::texts::MINUS;
 
 pub mod values;
 
-use values::{DEEP, is_opener, outermost};
+use values::{Found, is_opener, outermost};
 
-// An integer, a tuple with the words that it takes, or why the bytes are no text.
+// An integer, or a tuple with the words that it takes.
 #[derive(Clone, Copy)]
 pub enum Judged {
     Integer(i32),
     Tuple(usize),
-    Refused(Refusal),
 }
 
 // The integer of such digits, after "~" or not.
-fn signed_of(negative: bool, number: u64) -> i32
+fn signed_of(negative: bool, number: u32) -> i32
     requires { number ≤ most_digits negative }
     ensures { result ≡ signed negative number }
 {
@@ -36,31 +36,28 @@ fn signed_of(negative: bool, number: u64) -> i32
     -1 - below
 }
 
-pub fn judge(text: &[u8]) -> Judged
+// What the bytes stand for, or why they are no text.
+pub fn judge(text: &[u8]) -> Result<Judged, Refusal>
     ensures { result ≡ judged_of (parsed text.now) }
 {
-    if text.len() == 0 {
-        return Judged::Refused(Refusal::Value);
-    }
-    let first = text[0];
+    let Some(&first) = text.first() else {
+        return Err(Refusal::Value);
+    };
     if !is_opener(first) {
-        let mut number: u64 = 0;
-        let end = integer(text, 0, &mut number);
-        if end != text.len() {
-            return Judged::Refused(Refusal::Value);
-        }
-        return Judged::Integer(signed_of(first == MINUS, number));
+        return match integer(text, 0) {
+            Some(read) if read.end == text.len() => {
+                Ok(Judged::Integer(signed_of(first == MINUS, read.number)))
+            }
+            _ => Err(Refusal::Value),
+        };
     }
-    let mut words: usize = 0;
-    let end = outermost(text, first, &mut words);
-    if end == text.len() {
-        return Judged::Tuple(words);
+    let mut found = Found {
+        words: 0,
+        why: Refusal::Value,
+    };
+    match outermost(text, first, &mut found) {
+        Some(end) if end == text.len() => Ok(Judged::Tuple(found.words)),
+        Some(_) => Err(Refusal::Value),
+        None => Err(found.why),
     }
-    if end != 0 {
-        return Judged::Refused(Refusal::Value);
-    }
-    if words == DEEP {
-        return Judged::Refused(Refusal::Deep);
-    }
-    Judged::Refused(Refusal::Value)
 }

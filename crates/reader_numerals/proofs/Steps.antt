@@ -9,6 +9,8 @@ use lib.Dec.{ltb, leb, eqb}
 use lib.ListN.{length, get_or, drop}
 use lib.Seq.{drop-cons, drop-length}
 use borrow.Author.Tests.{ltb-true, leb-true, eqb-true, lt-ltb, eq-eqb, ne_eqb}
+use Rattle.std.specs.Char.{is_ascii_digit}
+use Rattle.std.proofs.lemmas.Bool.Decides.{nat_tests}
 use Rattle.model.specs.declared.Refusal.{Refusal}
 use Rattle.model.specs.declared.Refusal.TheVariants as Why
 use Rattle.model.specs.Texts.{max_depth}
@@ -48,6 +50,13 @@ pub digit_bounds : (b : ℕ) → is_digit b ≡ true → (48 ≤ b) × (b < 58)
 digit_bounds b e =
     let p = and_both (leb 48 b) (ltb b 58) e in
     (leb-true 48 b p.0, ltb-true b 58 p.1)
+
+le_lt : (b : ℕ) → leb b 57 ≡ ltb b 58
+le_lt b = grind (arith, nat_tests)
+
+-- what std calls a digit
+pub ascii_digit : (b : ℕ) → is_ascii_digit b ≡ is_digit b
+ascii_digit b = ap (λ (q : Bool). leb 48 b && q) (le_lt b)
 
 -- no digit follows a value
 pub follow-digit : (x : Tree) (o : Open) (b : ℕ) → 48 ≤ b → b < 58 → follow x o b ≡ bad Why.Value

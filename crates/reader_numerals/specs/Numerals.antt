@@ -1,5 +1,5 @@
--- What is read of an integer from a place in the bytes: the place behind it, of which 0 is a refusal. Each is said by how the bytes
--- are read, as `model` defines it: what the bytes from the first place on come to is what those from the place behind come to.
+-- What is read of an integer from a place in the bytes: its number, and the place behind it. Each is said by how the bytes are read,
+-- as `model` defines it: what the bytes from the first place on come to is what those from the place behind come to.
 use Rattle.std.specs.Prelude.{ℕ, ◌+◌, ◌-◌, ◌≤◌, ◌<◌, ◌≡◌, Bool, not, cond, ◌&&◌, List, ltb, eqb, length, get_or, drop}
 use Rattle.model.specs.declared.Refusal.TheVariants as Why
 use Rattle.model.specs.Texts.{minus, max_depth}
@@ -41,10 +41,9 @@ pub record NaturalRead (t : List ℕ) (from most r n : ℕ) : Type 0 where
   pub leads : (neg : Bool) → most ≡ most_digits neg → (o : Open) (x : Next) → Awaits t from neg o x
       → rest t x from ≡ rest t (go (whole (leaf (signed neg n)) o)) r
 
-pub record Natural (t : List ℕ) (from most r n : ℕ) : Type 0 where
-  pub stops : r ≡ 0 → (neg : Bool) → most ≡ most_digits neg → (o : Open) (x : Next) → Awaits t from neg o x
-      → rest t x from ≡ broken Why.Value
-  pub comes : (r ≡ 0 → ⊥) → NaturalRead t from most r n
+-- or why there is none
+pub record NoNatural (t : List ℕ) (from most : ℕ) : Type 0 where
+  pub stops : (neg : Bool) → most ≡ most_digits neg → (o : Open) (x : Next) → Awaits t from neg o x → rest t x from ≡ broken Why.Value
 
 abbrev pub negative : List ℕ → ℕ → Bool
 negative t at = eqb (get_or t at 0) minus
@@ -55,6 +54,6 @@ pub record NumeralRead (t : List ℕ) (at r n : ℕ) : Type 0 where
   pub small : n ≤ most_digits (negative t at)
   pub leads : (o : Open) → rest t (go (start o)) at ≡ rest t (go (whole (leaf (signed (negative t at) n)) o)) r
 
-pub record Numeral (t : List ℕ) (at r n : ℕ) : Type 0 where
-  pub stops : r ≡ 0 → (o : Open) → rest t (go (start o)) at ≡ broken Why.Value
-  pub comes : (r ≡ 0 → ⊥) → NumeralRead t at r n
+-- or why there is none
+pub record NoNumeral (t : List ℕ) (at : ℕ) : Type 0 where
+  pub stops : (o : Open) → rest t (go (start o)) at ≡ broken Why.Value

@@ -1,107 +1,78 @@
-// An integer of a text: its bytes from a place on, with the place behind them as the answer, or 0 where they
-// are none. What a digit is serves the reader's other pass too.
+// An integer of a text: its bytes from a place on.
 #![tactic(auto)]
 
-ghost use Rattle.std.specs.Prelude.{◌≡◌, false, cond, ◌+◌, ◌≤◌, ◌<◌, eqb, length, get_or};
-ghost use Rattle.model.specs.Texts.{minus};
+ghost use Rattle.std.specs.Prelude.{◌≡◌, false, ◌≤◌, ◌<◌, length, get_or, MatchOption};
 ghost use Rattle.model.specs.ReadFaults as Faults;
-ghost use Rattle.model.specs.Reading.{is_digit};
-ghost use Rattle.reader_numerals.specs.Numerals.{is_first, Counted, Natural, Numeral};
+ghost use Rattle.reader_numerals.specs.Numerals.{is_first, Counted, NoNatural, NaturalRead};
+ghost use Rattle.reader_numerals.specs.Numerals.{NoNumeral, NumeralRead};
 
-const MAX_INTEGER: u64 = 1073741823;
-
-pub const MINUS: u8 = 126;
-
-pub const ZERO: u8 = 48;
-
-// The byte behind that of 9.
-const COLON: u8 = 58;
+use words::texts::{MINUS, ZERO};
+use words::values::MAX_INTEGER;
 
 // No integer in range has more digits, so that the range is asked for once.
 const MOST_DIGITS: usize = 10;
 
-pub fn is_digit(byte: u8) -> bool
-    ensures { result ≡ is_digit byte }
-{
-    ZERO <= byte && byte < COLON
+// The least digit that a number may begin with: no zero leads.
+const LEAST_LEADING: u8 = b'1';
+
+// An integer without its sign, and the place behind its bytes.
+#[derive(Clone, Copy)]
+pub struct Numeral {
+    pub number: u32,
+    pub end: usize,
 }
 
-// Where the digits of an integer in range end at the latest.
-fn last_of(length: usize, from: usize) -> usize
-    requires { from < length }
-    ensures { (from < result) × (result ≤ length) × (result ≤ from + 10) × (result < length → result
-        ≡ from + 10) }
-{
-    if length - from <= MOST_DIGITS {
-        return length;
-    }
-    from + MOST_DIGITS
-}
-
-// The digits from a first one on, of which there are ten at most, and the number that they make.
-fn digits(text: &[u8], from: usize, number: &mut u64) -> usize
+// The number that the digits from a first one on make, ten of them at most, and the place behind them.
+fn digits(text: &[u8], from: usize) -> (u64, usize)
     requires { (from < length text.now) × (is_first (get_or text.now from 0)) }
-    ensures { Counted text.now from result number.new }
+    ensures { Counted text.now from result.1 result.0 }
 {
-    let last = last_of(text.len(), from);
-    let mut total = (text[from] - ZERO) as u64;
-    let mut place = from + 1;
-    while place < last {
+    let last = text.len().min(from + MOST_DIGITS);
+    let mut number = (text[from] - ZERO) as u64;
+    for place in from + 1..last {
         let byte = text[place];
-        if !is_digit(byte) {
-            *number = total;
-            return place;
+        if !byte.is_ascii_digit() {
+            return (number, place);
         }
-        total = 10 * total + (byte - ZERO) as u64;
-        place += 1;
+        number = 10 * number + (byte - ZERO) as u64;
     }
-    *number = total;
-    place
+    (number, last)
 }
 
 // A number with no leading zero, and not above `most`.
-fn natural(text: &[u8], from: usize, most: u64, number: &mut u64) -> usize
+fn natural(text: &[u8], from: usize, most: u32) -> Option<Numeral>
     requires { from ≤ length text.now }
-    ensures { Natural text.now from most result number.new }
+    ensures { MatchOption result (NoNatural text.now from most)
+        (λ r. NaturalRead text.now from most r.end r.number) }
 {
-    if from == text.len() {
-        return 0;
+    let Some(&first) = text.get(from) else {
+        return None;
+    };
+    if first < LEAST_LEADING || !first.is_ascii_digit() {
+        return None;
     }
-    let first = text[from];
-    if first <= ZERO {
-        return 0;
+    let (number, end) = digits(text, from);
+    if number > most as u64 {
+        return None;
     }
-    if COLON <= first {
-        return 0;
-    }
-    let end = digits(text, from, number);
-    let total = *number;
-    if most < total {
-        return 0;
-    }
-    end
+    Some(Numeral {
+        number: number as u32,
+        end,
+    })
 }
 
-// The bytes of the sign before the digits.
-fn sign_bytes(first: u8) -> usize
-    ensures { result ≡ cond (eqb first minus) 1 0 }
-{
-    if first == MINUS {
-        return 1;
-    }
-    0
-}
-
-// An integer in its range. Its number without the sign is left in `number`, for whom asks for it.
-pub fn integer(text: &[u8], at: usize, number: &mut u64) -> usize
+// An integer in its range.
+pub fn integer(text: &[u8], at: usize) -> Option<Numeral>
     requires { (at < length text.now) × (Faults.opens (get_or text.now at 0) ≡ false) }
-    ensures { Numeral text.now at result number.new }
+    ensures { MatchOption result (NoNumeral text.now at)
+        (λ r. NumeralRead text.now at r.end r.number) }
 {
-    let first = text[at];
-    if first == ZERO {
-        *number = 0;
-        return at + 1;
+    match text[at] {
+        ZERO => Some(Numeral {
+            number: 0,
+            end: at + 1,
+        }),
+        MINUS => natural(text, at + 1, MAX_INTEGER + 1),
+        _ => natural(text, at, MAX_INTEGER),
     }
-    let sign = sign_bytes(first);
-    natural(text, at + sign, MAX_INTEGER + sign as u64, number)
 }

@@ -218,7 +218,6 @@ module _ (H₀ T : List ℕ) (last : ℕ) (H A : List ℕ) (n slot place : ℕ) 
     pub record Closes : Type 0 where
       pub some : 1 ≤ n
       pub room : 1 ≤ slot
-      pub slot_inside : slot ≤ length H
       pub behind : place < length T
       pub none : get_or T (place - 1 + 1) 0 ≡ 41 → Counting H₀ T last (set H (slot - 1) 0) A (n - 1) (slot - 1) (place - 1)
       pub again : (get_or T (place - 1 + 1) 0 ≡ 41 → ⊥)
@@ -261,7 +260,6 @@ module _ (H₀ T : List ℕ) (last : ℕ) (H A : List ℕ) (n slot place : ℕ) 
         record {
           some = h;
           room = r;
-          slot_inside = omega (arith, s.begins, c.within, heap-size);
           behind = q;
           none = λ z. stored 0 r (opener-tally 0 a b o (simp (eq-eqb (top (drop place T)) 41 (head-is q ∙ z))));
           again = λ z. stored (get_or A (n - 1) 0) r

@@ -4,16 +4,13 @@ ghost use Rattle.model.specs.Trees.{Forest};
 ghost use Rattle.model.specs.ReadFaults as Faults;
 ghost use Rattle.reader_placing.specs.Counting.{Countable, CountsKept};
 
-use reader_judging::values::{CLOSER, COMMA, ONE_CLOSER, is_opener};
-use reader_numerals::is_digit;
+use reader_judging::values::is_opener;
+use words::texts::{CLOSER, COMMA, MAX_DEPTH, ONE_CLOSER};
 
 fn is_closer(byte: u8) -> bool
     ensures { result ≡ Faults.closes byte }
 {
-    if byte == CLOSER {
-        return true;
-    }
-    byte == ONE_CLOSER
+    byte == CLOSER || byte == ONE_CLOSER
 }
 
 // Fills the words before `end`, from the right, with the counts of all tuples, in the order in which the
@@ -24,14 +21,13 @@ pub fn count_fields(heap: &mut [u32], text: &[u8], end: usize) -> usize
     ensures { (g : Forest) → Countable heap.old text.now end g
         → CountsKept heap.old end g result heap.new }
 {
-    let mut open: [u32; 64] = [0; 64];
+    // An array and its top: the library has no memory of its own.
+    let mut open: [u32; MAX_DEPTH] = [0; MAX_DEPTH];
     let mut top: usize = 0;
     let mut slot = end;
-    let mut place = text.len();
-    while 0 < place {
-        place -= 1;
+    for place in (0..text.len()).rev() {
         let byte = text[place];
-        if is_digit(byte) {
+        if byte.is_ascii_digit() {
             continue;
         }
         if byte == COMMA {

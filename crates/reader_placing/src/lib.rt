@@ -16,9 +16,7 @@ pub mod values;
 
 use counts::count_fields;
 use values::tuple;
-
-// Below the outermost tuple others nest so deep.
-pub const DEPTH: usize = 63;
+use words::texts::MAX_DEPTH;
 
 // The objects of a tuple's text from the index `free` on, each before those that its fields name. The text
 // fills `words` words.
@@ -28,5 +26,5 @@ pub fn lay(heap: &mut [u32], text: &[u8], free: usize, words: usize)
         → LaidFrom heap.old free words g heap.new }
 {
     let slot = count_fields(heap, text, free + words);
-    tuple(heap, text, 0, free, slot, DEPTH);
+    tuple(heap, text, 0, free, slot, MAX_DEPTH - 1);
 }

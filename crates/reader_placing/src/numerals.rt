@@ -2,18 +2,12 @@
 ghost use Rattle.std.specs.Prelude.{ℕ, ◌<◌, ℤ, length};
 ghost use Rattle.reader_placing.specs.Numerals.{DigitsAt, DigitsRead, IntegerAt, IntegerRead};
 
-use reader_numerals::{MINUS, ZERO, is_digit};
+use reader_numerals::Numeral;
+use words::texts::{MINUS, ZERO};
+use words::values::LAST_WORD;
 
-// The word of -1.
-const LAST_WORD: u32 = 4294967295;
-
-#[derive(Clone, Copy)]
-pub struct Numeral {
-    pub number: u32,
-    pub end: usize,
-}
-
-// The number whose digits stand at a place, and the place behind them.
+// The number whose digits stand at a place. Some byte that is no digit follows them and ends the loop: over a
+// range, the text's length would be asked for at each digit too.
 fn magnitude(text: &[u8], at: usize) -> Numeral
     requires { (n : ℕ) × DigitsAt text.now at n }
     ensures { (n : ℕ) → DigitsAt text.now at n → DigitsRead at n result.number result.end }
@@ -21,7 +15,7 @@ fn magnitude(text: &[u8], at: usize) -> Numeral
     let mut number: u32 = 0;
     let mut place = at;
     let mut byte = text[place];
-    while is_digit(byte) {
+    while byte.is_ascii_digit() {
         number = 10 * number + (byte - ZERO) as u32;
         place += 1;
         byte = text[place];

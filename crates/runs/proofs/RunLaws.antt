@@ -1,21 +1,26 @@
--- Runs of words: what clearing and copying leave at each index, and when words are all 0.
-use Prim.Native.Nat.{ℕ, zero, suc, ◌+◌, ◌-◌, ◌≤◌, ◌<◌}
+-- Runs of words: what clearing and copying leave at each index. Words of a list: when all are 0, or pass another test.
+use Prim.Native.Nat.{ℕ, zero, suc, ◌+◌, ◌≤◌, ◌<◌}
 use native.Mathlib.Nat.{add-zero}
 use native.Mathlib.Omega.{arith}
 use mathlib.Core.Path.{◌≡◌, refl, sym, ap, ◌∙◌}
 use mathlib.Core.Logic.{◌⊎◌, inl, inr, ⊎_elim}
-use mathlib.Core.Bool.{Bool, true, false, ◌&&◌, and-true, and_assoc}
+use mathlib.Core.Bool.{Bool, ◌&&◌, and-true, and_assoc}
 use mathlib.Core.List.{List, [], ◌∷◌, ◌++◌}
 use lib.Bits.{bit_or, or_add_and, and_le_l, and_le_r, or_zero_l}
 use lib.Dec.{eqb}
-use lib.ListN.{length, drop, set, replicate, length-set}
-use lib.Seq.{get_or-set_same, get_or-set_other, set-get_or, sets, drop-cons, take-add, drop-drop}
+use lib.ListN.{length, take, drop, set, replicate, length-set, drop_of_length-le}
+use lib.Seq.{get_or-set_same, get_or-set_other, set-get_or, sets, take-length}
+use borrow.Rule.Slice.PartMut.{put_mid}
+use Rattle.std.specs.List.{fold}
+use Rattle.std.proofs.lemmas.List.{length-replicate, take-append-drop, append-nil}
+use Rattle.std.proofs.lemmas.List.Edits.{sets-eq}
+use Rattle.std.proofs.lemmas.Slice.{put_mid-paste}
 use borrow.Author.Tests.{ne_eqb}
 use Rattle.model.specs.Words.{at}
 use Rattle.model.specs.Values.{is_null}
 use Rattle.model.specs.Soundness.{all}
 use Rattle.theory.proofs.Tests.{same?}
-use Rattle.runs.specs.Runs.{run, cleared, copied_run, Apart}
+use Rattle.runs.specs.Runs.{cleared, copied_run, Apart}
 
 -- ---- what lies outside a run
 
@@ -75,6 +80,19 @@ pub cleared-sets : (h : List ℕ) (i n : ℕ) → cleared h i n ≡ sets h i (re
 unfolding cleared
 cleared-sets h i zero = refl
 cleared-sets h i (suc n) = sym (cleared_front h i n) ∙ cleared-sets (set h i 0) (suc i) n
+
+-- m words of n, all that were to be written, written with 0
+pub cleared-filled : (h : List ℕ) (from n k m : ℕ) (ws zs : List ℕ) → from + n ≤ length h → k ≡ n → m ≡ n → length ws ≤ m
+    → zs ≡ replicate m 0 ++ drop m ws → put_mid from k h zs ≡ cleared h from n
+cleared-filled h from n k m ws zs l e f done z =
+    let all : List ℕ = replicate n 0 in
+    let long : length all ≡ n = length-replicate {A = ℕ} n 0 in
+    let filled : zs ≡ all = z ∙ ap (λ (t : List ℕ). replicate m 0 ++ t) (drop_of_length-le ws done)
+    ∙ append-nil (replicate m 0) ∙ ap (λ (i : ℕ). replicate i 0) f in
+    put_mid-paste from k h zs all (length all) filled (omega (arith, long)) refl
+    ∙ ap (λ (t : List ℕ). take from h ++ t ++ drop (from + length all) h) (take-length all)
+    ∙ sym (sets-eq all h from (omega (arith, long)))
+    ∙ sym (cleared-sets h from n)
 
 -- ---- copied
 
@@ -180,20 +198,13 @@ copied_front h from to (suc n) =
     ∙ ap (λ (x : ℕ). set (copied_run h from to (suc n)) x (at (copied_run h from to (suc n)) (from + 1 + n))) (omega arith)
     ∙ ap (λ (x : ℕ). set (copied_run h from to (suc n)) (to + suc n) (at (copied_run h from to (suc n)) x)) (omega arith)
 
--- ---- a test of every word of a run
-
--- a run, one word longer or a part of it passed
-run_more : (h : List ℕ) (from n : ℕ) → from + n < length h → run h from (n + 1) ≡ run h from n ++ (at h (from + n) ∷ [])
-run_more h from n l = rw (take-add n 1 (drop from h), drop-drop n from h, drop-cons h (from + n) 0 l)
-
-pub run-apart : (h : List ℕ) (from n m : ℕ) → run h from (n + m) ≡ run h from n ++ run h (from + n) m
-run-apart h from n m = rw (take-add n m (drop from h), drop-drop n from h)
+-- ---- a test of every word of a list
 
 pub all_append : {A : Type 0} (p : A → Bool) (xs ys : List A) → all p (xs ++ ys) ≡ (all p xs && all p ys)
 all_append p [] ys = refl
 all_append p (x ∷ xs) ys = ap (λ (b : Bool). p x && b) (all_append p xs ys) ∙ sym (and_assoc (p x) (all p xs) (all p ys))
 
-or-zero : (a b : ℕ) → eqb (bit_or a b) 0 ≡ (eqb a 0 && eqb b 0)
+pub or-zero : (a b : ℕ) → eqb (bit_or a b) 0 ≡ (eqb a 0 && eqb b 0)
 or-zero a b =
     let s = or_add_and a b in
     let l = and_le_l a b in
@@ -203,28 +214,15 @@ or-zero a b =
     (λ (n : a ≡ 0 → ⊥). rw (ne_eqb (bit_or a b) 0 (λ z. n (omega arith)), ne_eqb a 0 n))
     (same? a 0)
 
--- bits of words that are 0 exactly where q holds of them
-pub bits-more : (q : ℕ → Bool) (h : List ℕ) (from i b w : ℕ) → from + i < length h → eqb w 0 ≡ q (at h (from + i))
-    → eqb b 0 ≡ all q (run h from i) → eqb (bit_or b w) 0 ≡ all q (run h from (i + 1))
-bits-more q h from i b w l f e =
-    or-zero b w
-    ∙ ap (λ (x : Bool). x && eqb w 0) e
-    ∙ ap (λ (x : Bool). all q (run h from i) && x) (f ∙ sym (and-true (q (at h (from + i)))))
-    ∙ sym (ap (all q) (run_more h from i l) ∙ all_append q (run h from i) (at h (from + i) ∷ []))
+-- the bits that any of the words has, besides those of b
+bits-from : (b : ℕ) (ws : List ℕ) → eqb (fold bit_or b ws) 0 ≡ (eqb b 0 && all is_null ws)
+bits-from b [] = sym (and-true (eqb b 0))
+bits-from b (w ∷ ws) =
+    bits-from (bit_or b w) ws ∙ ap (λ (x : Bool). x && all is_null ws) (or-zero b w) ∙ and_assoc (eqb b 0) (eqb w 0) (all is_null ws)
 
--- the first m words of a run and the others
-pub all_parts : (q : ℕ → Bool) (h : List ℕ) (from m n : ℕ) → m ≤ n
-    → all q (run h from n) ≡ (all q (run h from m) && all q (run h (from + m) (n - m)))
-all_parts q h from m n l =
-    let s : n ≡ m + (n - m) = omega arith in
-    ap (λ (x : ℕ). all q (run h from x)) s
-    ∙ ap (all q) (run-apart h from m (n - m))
-    ∙ all_append q (run h from m) (run h (from + m) (n - m))
+pub bits-null : (ws : List ℕ) → eqb (fold bit_or 0 ws) 0 ≡ all is_null ws
+bits-null ws = bits-from 0 ws
 
-pub zero-passed : (h : List ℕ) (from m n : ℕ) → m ≤ n → all is_null (run h from m) ≡ true
-    → all is_null (run h (from + m) (n - m)) ≡ all is_null (run h from n)
-zero-passed h from m n l e = rw (all_parts is_null h from m n l, e)
-
-pub zero_failed : (h : List ℕ) (from m n : ℕ) → m ≤ n → all is_null (run h from m) ≡ false
-    → all is_null (run h from n) ≡ false
-zero_failed h from m n l e = rw (all_parts is_null h from m n l, e)
+-- the first n words of a list and the others
+pub all_rest : (q : ℕ → Bool) (ws : List ℕ) (n : ℕ) → all q ws ≡ (all q (take n ws) && all q (drop n ws))
+all_rest q ws n = ap (all q) (sym (take-append-drop n ws)) ∙ all_append q (take n ws) (drop n ws)

@@ -1,135 +1,73 @@
 // TextCases::reader: the value of a text, into a root. S = 8.
-use case_runs::{run, start};
+use case_runs::start::{empty, p5};
 use std::io;
 
-// On an empty heap with one null root.
-fn on_blank(rt: &impl Print, title: &[u8], to: usize, text: &mut [u8]) -> io::Result<()> {
-    let mut heap = [0u32; 17];
-    let mut roots = [0u32; 1];
-    run::name(rt, title)?;
-    run::read(rt, &mut heap, &mut roots, run::in_a(1), to, text)
-}
-
-fn take(rt: &impl Print, title: &[u8], text: &mut [u8]) -> io::Result<()> {
-    on_blank(rt, title, 0, text)
-}
-
-// Into root 1 on P5's start, of which root 0 holds the word `first`.
-fn on_p5(rt: &impl Print, title: &[u8], first: u32, text: &mut [u8]) -> io::Result<()> {
-    let mut heap = start::p5();
-    let mut roots = [first, 12];
-    run::name(rt, title)?;
-    run::read(rt, &mut heap, &mut roots, run::in_a(7), 1, text)
-}
-
-// 64 openers, and two bytes behind them.
-fn open() -> [u8; 66] {
-    [b'('; 66]
-}
-
-// And none behind them.
-fn open_to_the_end() -> [u8; 64] {
-    [b'('; 64]
+// Into the null root of an empty heap.
+fn take<const N: usize>(rt: &impl Print, title: &str, text: &[u8; N]) -> io::Result<()> {
+    empty([0]).read(rt, title, 0, text)
 }
 
 fn tuples(rt: &impl Print) -> io::Result<()> {
-    let mut empty = [b'(', b')'];
-    take(rt, b"read, ()", &mut empty)?;
-    let mut one = [b'{', b'1', b'=', b'(', b')', b'}'];
-    take(rt, b"read, one field", &mut one)?;
-    let mut two = [b'(', b'1', b',', b'~', b'2', b')'];
-    take(rt, b"read, two fields", &mut two)
+    take(rt, "read, ()", b"()")?;
+    take(rt, "read, one field", b"{1=()}")?;
+    take(rt, "read, two fields", b"(1,~2)")
 }
 
 fn integers(rt: &impl Print) -> io::Result<()> {
-    let mut seven = [b'7'];
-    take(rt, b"read, 7", &mut seven)?;
-    let mut most = [b'1', b'0', b'7', b'3', b'7', b'4', b'1', b'8', b'2', b'3'];
-    take(rt, b"read, the largest integer", &mut most)?;
-    let mut least = [
-        b'~', b'1', b'0', b'7', b'3', b'7', b'4', b'1', b'8', b'2', b'4',
-    ];
-    take(rt, b"read, the smallest integer", &mut least)
+    take(rt, "read, 7", b"7")?;
+    take(rt, "read, the largest integer", b"1073741823")?;
+    take(rt, "read, the smallest integer", b"~1073741824")
 }
 
 fn no_integer(rt: &impl Print) -> io::Result<()> {
-    let mut above = [b'1', b'0', b'7', b'3', b'7', b'4', b'1', b'8', b'2', b'4'];
-    take(rt, b"read, above the largest", &mut above)?;
-    let mut below = [
-        b'~', b'1', b'0', b'7', b'3', b'7', b'4', b'1', b'8', b'2', b'5',
-    ];
-    take(rt, b"read, below the smallest", &mut below)?;
-    let mut minus_zero = [b'~', b'0'];
-    take(rt, b"read, ~0", &mut minus_zero)?;
-    let mut zeros = [b'0', b'0'];
-    take(rt, b"read, 00", &mut zeros)
+    take(rt, "read, above the largest", b"1073741824")?;
+    take(rt, "read, below the smallest", b"~1073741825")?;
+    take(rt, "read, ~0", b"~0")?;
+    take(rt, "read, 00", b"00")
 }
 
 fn no_tuple(rt: &impl Print) -> io::Result<()> {
-    let mut one = [b'(', b'1', b')'];
-    take(rt, b"read, one field in parentheses", &mut one)?;
-    let mut none = [b'{', b'}'];
-    take(rt, b"read, no field in braces", &mut none)?;
-    let mut second = [b'{', b'2', b'=', b'1', b'}'];
-    take(rt, b"read, a field of number 2", &mut second)?;
-    let mut two = [b'{', b'1', b'=', b'1', b',', b'2', b'=', b'2', b'}'];
-    take(rt, b"read, two fields in braces", &mut two)?;
-    let mut cut = [b'(', b'1', b','];
-    take(rt, b"read, cut off", &mut cut)?;
-    let mut blank = [b'(', b'1', b',', b'2', b')', b' '];
-    take(rt, b"read, a blank behind", &mut blank)?;
-    let mut nothing: [u8; 0] = [];
-    take(rt, b"read, no byte", &mut nothing)
+    take(rt, "read, one field in parentheses", b"(1)")?;
+    take(rt, "read, no field in braces", b"{}")?;
+    take(rt, "read, a field of number 2", b"{2=1}")?;
+    take(rt, "read, two fields in braces", b"{1=1,2=2}")?;
+    take(rt, "read, cut off", b"(1,")?;
+    take(rt, "read, a blank behind", b"(1,2) ")?;
+    take(rt, "read, no byte", b"")
 }
 
 fn no_room(rt: &impl Print) -> io::Result<()> {
-    let mut ten = [
-        b'(', b'(', b')', b',', b'{', b'1', b'=', b'3', b'}', b',', b'(', b'4', b',', b'5', b')',
-        b')',
-    ];
-    take(rt, b"read, ten words", &mut ten)?;
-    let mut nine = [
-        b'(', b'1', b',', b'2', b',', b'3', b',', b'4', b',', b'5', b',', b'6', b',', b'7', b',',
-        b'8', b')',
-    ];
-    take(rt, b"read, nine words", &mut nine)
+    take(rt, "read, ten words", b"((),{1=3},(4,5))")?;
+    take(rt, "read, nine words", b"(1,2,3,4,5,6,7,8)")
 }
 
 fn collected(rt: &impl Print) -> io::Result<()> {
-    let mut pair = [b'(', b'1', b',', b'2', b')'];
-    on_p5(rt, b"read, collected for", 24, &mut pair)?;
-    let mut nested = [b'(', b'1', b',', b'(', b'2', b',', b'3', b')', b')'];
-    on_p5(rt, b"read, no room in what is left", 24, &mut nested)
+    p5([24, 12]).read(rt, "read, collected for", 1, b"(1,2)")?;
+    p5([24, 12]).read(rt, "read, no room in what is left", 1, b"(1,(2,3))")
 }
 
 fn in_order(rt: &impl Print) -> io::Result<()> {
-    let mut parents = [b'(', b'(', b'(', b')', b',', b'1', b')', b',', b'2', b')'];
-    take(rt, b"read, parents before children", &mut parents)?;
-    let mut children = [
-        b'(', b'{', b'1', b'=', b'(', b')', b'}', b',', b'(', b')', b')',
-    ];
-    take(rt, b"read, children before siblings", &mut children)
+    take(rt, "read, parents before children", b"(((),1),2)")?;
+    take(rt, "read, children before siblings", b"({1=()},())")
+}
+
+// 64 openers, and two bytes behind them.
+fn open(behind: &[u8; 2]) -> [u8; 66] {
+    let mut text = [b'('; 66];
+    text[64..].copy_from_slice(behind);
+    text
 }
 
 fn deep(rt: &impl Print) -> io::Result<()> {
-    let mut brace = open();
-    brace[64] = b'{';
-    brace[65] = b'2';
-    take(rt, b"read, the 65th nested", &mut brace)?;
-    let mut end = open_to_the_end();
-    take(rt, b"read, 64 stand open", &mut end)?;
-    let mut behind = open();
-    behind[64] = b'1';
-    take(rt, b"read, an opener behind a value", &mut behind)
+    take(rt, "read, the 65th nested", &open(b"{2"))?;
+    take(rt, "read, 64 stand open", &[b'('; 64])?;
+    take(rt, "read, an opener behind a value", &open(b"1("))
 }
 
 fn refused(rt: &impl Print) -> io::Result<()> {
-    let mut cut = [b'('];
-    on_blank(rt, b"read, no root", 1, &mut cut)?;
-    let mut pair = [b'(', b'1', b',', b'2', b')'];
-    on_p5(rt, b"read, damaged and no room", 14, &mut pair)?;
-    let mut empty = [b'(', b')'];
-    on_p5(rt, b"read, damaged and room", 14, &mut empty)
+    empty([0]).read(rt, "read, no root", 1, b"(")?;
+    p5([14, 12]).read(rt, "read, damaged and no room", 1, b"(1,2)")?;
+    p5([14, 12]).read(rt, "read, damaged and room", 1, b"()")
 }
 
 pub fn cases(rt: &impl Print) -> io::Result<()> {

@@ -1,112 +1,55 @@
-// TextCases::writer: the text of what a root holds, into bytes that are lent. S = 8.
-ghost use Rattle.std.specs.Prelude.{◌≡◌, ◌≤◌, length};
-
-use case_runs::{run, start};
-use model::Record;
+// TextCases::writer: the text of what a root holds, into so many bytes '.', which no text has. S = 8.
+use case_runs::start::{empty, p5};
+use case_runs::state::State;
+use model::Half;
 use std::io;
 
-// Bytes that no text has. (A function's own array is one that its callers do not compute with.)
-fn dots() -> [u8; 400]
-    ensures { length result ≡ 400 }
-{
-    [b'.'; 400]
+// A root that names the object at word 1.
+fn object(free: usize, heap: [u32; 17]) -> State<17, 1> {
+    State::new(Half::A, free, heap, [4])
 }
 
-// Root `root` is written into so many of them.
-fn write(
-    rt: &impl Print,
-    heap: &mut [u32],
-    roots: &mut [u32],
-    record: Record,
-    root: usize,
-    bytes: usize,
-) -> io::Result<()>
-    requires { bytes ≤ 400 }
-{
-    let mut text = dots();
-    run::write(rt, heap, roots, record, root, &mut text[..bytes])
-}
-
-// On P5's start.
-fn on_p5(rt: &impl Print, title: &[u8], root: usize, bytes: usize) -> io::Result<()>
-    requires { bytes ≤ 400 }
-{
-    let mut heap = start::p5();
-    let mut roots = [24u32, 12];
-    run::name(rt, title)?;
-    write(rt, &mut heap, &mut roots, run::in_a(7), root, bytes)
-}
-
-// Of one root, on an empty heap.
-fn on_blank(rt: &impl Print, title: &[u8], word: u32, root: usize, bytes: usize) -> io::Result<()>
-    requires { bytes ≤ 400 }
-{
-    let mut heap = [0u32; 17];
-    let mut roots = [word];
-    run::name(rt, title)?;
-    write(rt, &mut heap, &mut roots, run::in_a(1), root, bytes)
-}
-
-// Of one root that names the object at word 1.
-fn on_object(
-    rt: &impl Print,
-    title: &[u8],
-    words: [u32; 17],
-    free: usize,
-    bytes: usize,
-) -> io::Result<()>
-    requires { bytes ≤ 400 }
-{
-    let mut heap = words;
-    let mut roots = [4u32];
-    run::name(rt, title)?;
-    write(rt, &mut heap, &mut roots, run::in_a(free), 0, bytes)
-}
-
-// Two fields, the first 1.
-fn pair(rt: &impl Print, title: &[u8], second: u32, bytes: usize) -> io::Result<()>
-    requires { bytes ≤ 400 }
-{
-    let heap = [0, 4, 3, second, 0, 0, 0, 0, 0, 0, 0, 0, 0, 0, 0, 0, 0];
-    on_object(rt, title, heap, 4, bytes)
+// One of two fields, the first 1.
+fn pair(second: u32) -> State<17, 1> {
+    object(4, [0, 4, 3, second, 0, 0, 0, 0, 0, 0, 0, 0, 0, 0, 0, 0, 0])
 }
 
 fn itself(rt: &impl Print) -> io::Result<()> {
-    on_p5(rt, b"text, () into 2 bytes", 0, 2)?;
-    on_p5(rt, b"text, () into 5 bytes", 0, 5)?;
-    on_p5(rt, b"text, () into 1 byte", 0, 1)?;
-    on_p5(rt, b"text, of itself into 63 bytes", 1, 63)?;
-    on_p5(rt, b"text, of itself into 64 bytes", 1, 64)?;
-    on_p5(rt, b"text, of itself into 65 bytes", 1, 65)?;
-    on_p5(rt, b"text, of itself into 400 bytes", 1, 400)
+    p5([24, 12]).write(rt, "text, () into 2 bytes", 0, &[b'.'; 2])?;
+    p5([24, 12]).write(rt, "text, () into 5 bytes", 0, &[b'.'; 5])?;
+    p5([24, 12]).write(rt, "text, () into 1 byte", 0, &[b'.'; 1])?;
+    p5([24, 12]).write(rt, "text, of itself into 63 bytes", 1, &[b'.'; 63])?;
+    p5([24, 12]).write(rt, "text, of itself into 64 bytes", 1, &[b'.'; 64])?;
+    p5([24, 12]).write(rt, "text, of itself into 65 bytes", 1, &[b'.'; 65])?;
+    p5([24, 12]).write(rt, "text, of itself into 400 bytes", 1, &[b'.'; 400])
 }
 
 fn no_text(rt: &impl Print) -> io::Result<()> {
-    pair(rt, b"text, (1,null) into 2 bytes", 0, 2)?;
-    pair(rt, b"text, (1,null) into 3 bytes", 0, 3)?;
-    on_blank(rt, b"text, null into no byte", 0, 0, 0)?;
-    on_blank(rt, b"text, a code word", 16777216, 0, 9)?;
+    pair(0).write(rt, "text, (1,null) into 2 bytes", 0, &[b'.'; 2])?;
+    pair(0).write(rt, "text, (1,null) into 3 bytes", 0, &[b'.'; 3])?;
+    empty([0]).write(rt, "text, null into no byte", 0, &[])?;
+    empty([16777216]).write(rt, "text, a code word", 0, &[b'.'; 9])?;
     let raw = [0, 0x80000002, 7, 0, 0, 0, 0, 0, 0, 0, 0, 0, 0, 0, 0, 0, 0];
-    on_object(rt, b"text, an untraced object", raw, 3, 9)?;
-    on_blank(rt, b"text, no object", 14, 0, 9)?;
-    on_blank(rt, b"text, no root", 1, 1, 9)
+    object(3, raw).write(rt, "text, an untraced object", 0, &[b'.'; 9])?;
+    empty([14]).write(rt, "text, no object", 0, &[b'.'; 9])?;
+    empty([1]).write(rt, "text, no root", 1, &[b'.'; 9])
 }
 
 fn integers(rt: &impl Print) -> io::Result<()> {
-    on_blank(rt, b"text, 0", 1, 0, 2)?;
-    on_blank(rt, b"text, 7", 15, 0, 2)?;
-    on_blank(rt, b"text, -2", 0xfffffffd, 0, 3)?;
-    on_blank(rt, b"text, the largest integer", 0x7fffffff, 0, 10)?;
-    on_blank(rt, b"text, the smallest integer", 0x80000001, 0, 11)?;
-    on_blank(rt, b"text, 10 into 1 byte", 21, 0, 1)
+    empty([1]).write(rt, "text, 0", 0, &[b'.'; 2])?;
+    empty([15]).write(rt, "text, 7", 0, &[b'.'; 2])?;
+    empty([0xfffffffd]).write(rt, "text, -2", 0, &[b'.'; 3])?;
+    empty([0x7fffffff]).write(rt, "text, the largest integer", 0, &[b'.'; 10])?;
+    empty([0x80000001]).write(rt, "text, the smallest integer", 0, &[b'.'; 11])?;
+    empty([21]).write(rt, "text, 10 into 1 byte", 0, &[b'.'; 1])
 }
 
 fn tuples(rt: &impl Print) -> io::Result<()> {
     let one = [0, 2, 12, 0, 0, 0, 0, 0, 0, 0, 0, 0, 0, 0, 0, 0, 0];
-    on_object(rt, b"text, one field", one, 4, 6)?;
-    pair(rt, b"text, two fields", 0xfffffffd, 8)?;
+    object(4, one).write(rt, "text, one field", 0, &[b'.'; 6])?;
+    pair(0xfffffffd).write(rt, "text, two fields", 0, &[b'.'; 8])?;
     let shared = [0, 4, 16, 16, 2, 7, 0, 0, 0, 0, 0, 0, 0, 0, 0, 0, 0];
-    on_object(rt, b"text, one object twice", shared, 6, 13)
+    object(6, shared).write(rt, "text, one object twice", 0, &[b'.'; 13])
 }
 
 pub fn cases(rt: &impl Print) -> io::Result<()> {

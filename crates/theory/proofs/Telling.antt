@@ -6,6 +6,7 @@ use mathlib.Core.List.{List, [], ◌∷◌}
 use lib.Dec.{leb, eqb}
 use lib.ListN.{length}
 use borrow.Author.Tests.{ne_eqb}
+use Rattle.std.specs.Prelude.{Result, Ok, Err}
 use Rattle.model.specs.declared.Kind.{Kind}
 use Rattle.model.specs.declared.Kind.TheVariants.{Traced, Untraced}
 use Rattle.model.specs.declared.Refusal.{Refusal}
@@ -66,8 +67,8 @@ own (Ask.Inspect r) t =
 own (Ask.Write r) t = Says.Written t.length
 own (Ask.Read r) t = Says.Done
 
-abbrev pub heard : Call → Told → Answer
-heard c t = cond (eqb t.refusal 0) (own c t) (Says.Refused (refusal_of t.refusal))
+abbrev pub heard : Call → Told → Result Answer Refusal
+heard c t = cond (eqb t.refusal 0) (Ok (own c t)) (Err (refusal_of t.refusal))
 
 -- refusal and value are enough, but for collect, inspect and write
 abbrev pub Simple : Call → Type 0
@@ -113,14 +114,14 @@ data Back (c : Call) : Outcome State → Type 0 where
   back : {o : Outcome State} → heard c (told o.answer) ≡ o.answer → Back c o
 
 -- an answer that is read back, whatever is left
-says_back : (c : Call) (x : Answer) (t : State) → heard c (told x) ≡ x → Back c (says x t)
+says_back : (c : Call) (x : Answer) (t : State) → heard c (told (Ok x)) ≡ Ok x → Back c (says x t)
 says_back c x t e = back {o = says x t} e
 
-refused-back : (c : Call) (k : Refusal) → heard c (told (Says.Refused k)) ≡ Says.Refused k
+refused-back : (c : Call) (k : Refusal) → heard c (told (Err k)) ≡ Err k
 refused-back c k =
-    rw (ne_eqb (number k) 0 (no_zero k)) (ap Says.Refused (numbered k))
+    rw (ne_eqb (number k) 0 (no_zero k)) (ap Err (numbered k))
 
-object-back : (r n : ℕ) (k : Kind) → heard (Ask.Inspect r) (told (Says.Object k n)) ≡ Says.Object k n
+object-back : (r n : ℕ) (k : Kind) → heard (Ask.Inspect r) (told (Ok (Says.Object k n))) ≡ Ok (Says.Object k n)
 object-back r n Traced = refl
 object-back r n Untraced = refl
 
@@ -135,11 +136,11 @@ module _ (Y : Layout) (s : State) where
   on_field_lem : (c : Call) (k : Kind) (r f : ℕ) (o : Outcome State) → Back c o → Back c (on_field Y k (root_word s r) f s o)
   on_field_lem c k r f o h = refuse_back c _ Why.Object s _ (refuse_back c _ Why.Kind s _ (refuse_back c _ Why.Field s o h))
 
-  either : (c : Call) (b : Bool) (x y : Answer) → heard c (told x) ≡ x → heard c (told y) ≡ y → Back c (says (cond b x y) s)
-  either c b x y e f = back (cond-holds (λ a. heard c (told a) ≡ a) b x y (λ t. e) (λ t. f))
+  either : (c : Call) (b : Bool) (x y : Answer) → heard c (told (Ok x)) ≡ Ok x → heard c (told (Ok y)) ≡ Ok y → Back c (says (cond b x y) s)
+  either c b x y e f = back (cond-holds (λ (a : Answer). heard c (told (Ok a)) ≡ Ok a) b x y (λ t. e) (λ t. f))
 
   -- a change that needs words, of a call that answers "done"
-  room_back : (c : Call) (n : ℕ) (change : State → State) → heard c (told Says.Done) ≡ Says.Done → Back c (with_room Y n change s)
+  room_back : (c : Call) (n : ℕ) (change : State → State) → heard c (told (Ok Says.Done)) ≡ Ok Says.Done → Back c (with_room Y n change s)
   room_back c n change e =
       cond-holds (Back c) (leb n (spare s)) _ _ (λ f. back e)
       (λ f. refuse_back c _ Why.Damaged s _ (refuse_back c _ Why.Room _ _ (back e)))
@@ -204,20 +205,20 @@ fresh-back s =
     (λ e. refl) (λ e. refl)
 
 pub number_back : (b : Bool) (k : Refusal) (w : ℕ)
-    → heard (Ask.RawRead 0 0) (told (cond b (Says.Refused k) (Says.Number w))) ≡ cond b (Says.Refused k) (Says.Number w)
+    → heard (Ask.RawRead 0 0) (told (cond b (Err k) (Ok (Says.Number w)))) ≡ cond b (Err k) (Ok (Says.Number w))
 number_back true k w = refused-back (Ask.RawRead 0 0) k
 number_back false k w = refl
 
-word_back : (H : List ℕ) (p : Place) (f : ℕ) → heard (Ask.RawRead 0 0) (told (window_word H p f)) ≡ window_word H p f
+word_back : (H : List ℕ) (p : Result Place Refusal) (f : ℕ) → heard (Ask.RawRead 0 0) (told (window_word H p f)) ≡ window_word H p f
 unfolding window_word
 word_back H p f = number_back (leb (length (shown H p)) f) Why.Field (at (shown H p) f)
 
 -- what is read back from equal numbers is equal
-apart : (c : Call) (a b : Answer) → heard c (told a) ≡ a → heard c (told b) ≡ b → told a ≡ told b → a ≡ b
+apart : (c : Call) (a b : Result Answer Refusal) → heard c (told a) ≡ a → heard c (told b) ≡ b → told a ≡ told b → a ≡ b
 apart c a b e f q = sym e ∙ ap (heard c) q ∙ f
 
 -- of refusal and value alone, but for collect, inspect and write
-pub apart_by_two : (c : Call) (a b : Answer) → Simple c → heard c (told a) ≡ a
+pub apart_by_two : (c : Call) (a b : Result Answer Refusal) → Simple c → heard c (told a) ≡ a
     → heard c (told b) ≡ b
     → (told a).refusal ≡ (told b).refusal → (told a).value ≡ (told b).value → a ≡ b
 apart_by_two c a b n e f q v =

@@ -20,7 +20,7 @@ use Rattle.model.specs.Shape.{bad_shape}
 use Rattle.model.specs.Objects.{index, kind, field_count, names}
 use Rattle.model.specs.Soundness.{sound}
 use Rattle.model.specs.Collection.{order_at, live, counts, copied, collected}
-use Rattle.model.specs.Answers.{Outcome, says, refuse}
+use Rattle.model.specs.Answers.{Outcome, refuse}
 use Rattle.model.specs.Admission.{no_roots, on_roots}
 use Rattle.model.specs.Changes.{root_word, fits, placed}
 use Rattle.model.specs.Calls as Calls
@@ -48,7 +48,7 @@ sees_text (Ask.Read to) = true
 
 -- an outcome whose state is lent the bytes t
 abbrev pub lending : List ℕ → Outcome State → Outcome State
-lending t o = says o.answer (with_text t o.left)
+lending t o = record { answer = o.answer; left = with_text t o.left }
 
 -- what a call makes of a state with these bytes, and of the state without
 data Lends (t : List ℕ) : Outcome State → Outcome State → Type 0 where

@@ -9,19 +9,19 @@ use borrow.Author.Tests.{le-leb, lt-leb}
 use Rattle.model.specs.declared.Refusal.{Refusal}
 use Rattle.model.specs.declared.Index.{Index}
 use Rattle.model.specs.declared.Refusal.TheVariants as Why
-use Rattle.model.specs.declared.Place.TheVariants as Place
+use Rattle.std.specs.Prelude.{Ok, Err}
 use Rattle.model.specs.declared.Answer.TheVariants as Says
-use Rattle.model.specs.Window.{window_word}
+use Rattle.model.specs.Window.{place, window_word}
 use Rattle.model.specs.Words.{at}
 
 -- FIELD from the count on and past the end of the words, and else the word itself
 module _ (H : List ℕ) (i : Index) (n f : ℕ) where
-  pub word_from_count : n ≤ f → window_word H (Place.Object i n) f ≡ Says.Refused Why.Field
+  pub word_from_count : n ≤ f → window_word H (Ok (place i n)) f ≡ Err Why.Field
   unfolding window_word
   word_from_count l =
       let x = length-take n (drop (i.0 + 1) H) in rw (le-leb (length (take n (drop (i.0 + 1) H))) f (omega arith))
 
-  pub word-past-end : length H ≤ i.0 + 1 + f → window_word H (Place.Object i n) f ≡ Says.Refused Why.Field
+  pub word-past-end : length H ≤ i.0 + 1 + f → window_word H (Ok (place i n)) f ≡ Err Why.Field
   unfolding window_word
   word-past-end l =
       let x = length-take n (drop (i.0 + 1) H) in
@@ -30,7 +30,7 @@ module _ (H : List ℕ) (i : Index) (n f : ℕ) where
 
   -- j is the word's index, however it is reckoned
   pub word-itself : f < n → i.0 + 1 + f < length H → (j : ℕ) → j ≡ i.0 + 1 + f
-      → window_word H (Place.Object i n) f ≡ Says.Number (at H j)
+      → window_word H (Ok (place i n)) f ≡ Ok (Says.Number (at H j))
   unfolding window_word
   word-itself l m j e =
       let x = length-take n (drop (i.0 + 1) H) in
@@ -42,6 +42,6 @@ module _ (H : List ℕ) (i : Index) (n f : ℕ) where
         e,
       )
 
-pub word_hidden : (H : List ℕ) (k : Refusal) (f : ℕ) → window_word H (Place.Refused k) f ≡ Says.Refused Why.Field
+pub word_hidden : (H : List ℕ) (k : Refusal) (f : ℕ) → window_word H (Err k) f ≡ Err Why.Field
 unfolding window_word
 word_hidden H k f = rw (le-leb 0 f (omega arith))

@@ -1,3 +1,4 @@
+pub mod Admitted
 pub mod FirstWords
 pub mod InRun
 pub mod RootNumbers

@@ -48,7 +48,7 @@ pub fn in_run(at: usize, first: usize, count: usize) -> bool
     requires { first + count < 2 ^ 64 }
     ensures { result ≡ (nat_le first at && nat_lt at (first + count)) }
 {
-    std::num::wrapping_sub_usize(at, first) < count
+    at.wrapping_sub(first) < count
 }
 
 // The part of SHAPE that fresh gives.
@@ -71,11 +71,9 @@ pub fn bad_shape(length: usize, root_count: usize, record: Record) -> bool
     if bad_length(length) {
         return true;
     }
-    let half = record.half;
-    let free = record.free.0;
     let half_words = half_words(length);
-    let first = first_of(half_words, half).0;
-    !in_run(free, first, half_words + 1)
+    let first = first_of(half_words, record.half).0;
+    !in_run(record.free.0, first, half_words + 1)
 }
 
 // ROOT, of a call that names two roots: whether either number is that of none. One test does for both, since
@@ -83,6 +81,5 @@ pub fn bad_shape(length: usize, root_count: usize, record: Record) -> bool
 pub fn no_root(root_count: usize, one: usize, other: usize) -> bool
     ensures { result ≡ no_roots root_count (one ∷ other ∷ []) }
 {
-    let last = if one < other { other } else { one };
-    root_count <= last
+    root_count <= one.max(other)
 }

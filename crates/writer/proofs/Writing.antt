@@ -1,5 +1,5 @@
 -- The call: what is measured and spelled is what the root's word is to its text, and what that leaves is the call's outcome.
-use Prim.Native.Nat.{ℕ, ◌+◌, ◌-◌, ◌≤◌, ◌<◌}
+use Prim.Native.Nat.{ℕ, ◌+◌, ◌-◌, ◌≤◌}
 use native.Mathlib.Omega.{arith}
 use mathlib.Core.Path.{◌≡◌, refl, sym, ap, ◌∙◌, subst, fun_ext}
 use mathlib.Core.Bool.{Bool, true, false, not, cond, ◌&&◌, ◌||◌}
@@ -9,33 +9,35 @@ use lib.IntN.{ℤ}
 use lib.ListN.{length, drop}
 use lib.Seq.{sets, sets-eq}
 use borrow.Author.Tests.{ne_eqb}
-use Rattle.model.specs.declared.Record.{Record}
+use Rattle.std.specs.Prelude.{Ok, Err, Result, ⊤}
 use Rattle.model.specs.declared.Refusal.{Refusal}
 use Rattle.model.specs.declared.Refusal.TheVariants as Why
-use Rattle.model.specs.declared.Answer.{Answer}
 use Rattle.model.specs.declared.Answer.TheVariants as Says
-use Rattle.model.specs.declared.Answered.{Answered}
-use Rattle.model.specs.Words.{State, state_of, with_text, first_word, free}
+use Rattle.model.specs.Words.{State, with_text, first_word, free}
 use Rattle.model.specs.Values.{is_odd, is_address, is_null, is_code, untag}
 use Rattle.model.specs.Headers.{tuple}
 use Rattle.model.specs.Objects.{index, is_traced, kind, field_words, names}
 use Rattle.model.specs.Shape.{bad_shape}
+use mathlib.Core.List.{[], ◌∷◌}
+use Rattle.model.specs.Answers as Answers
 use Rattle.model.specs.Answers.{Outcome, says}
+use Rattle.words.specs.Admits.{admits}
+use Rattle.words.proofs.Admitted.{not_admitted}
 use Rattle.model.specs.Texts.{Form, as_integer, as_tuple, textless, Piece, max_depth, value_pieces, Spelled, whole, broken}
-use Rattle.model.specs.Texts.{spelled, writes}
+use Rattle.model.specs.Texts.{writes}
 use Rattle.model.specs.Changes.{root_word}
 use Rattle.model.specs.Calls.{word_form, root_spelled, write}
 use Rattle.theory.proofs.Headers.{tuple_adjacent}
 use Rattle.theory.proofs.Tests.{never}
 use Rattle.theory.proofs.Deciding.{named-address, names_decides}
 use Rattle.theory.proofs.WordSorts.{address_parts, address_no_code}
-use Rattle.theory.proofs.Refusing.{applies, passes}
-use Rattle.theory.proofs.Texts.{whole-fits, textless-same, broken-fault, pieces_faults}
+use Rattle.theory.proofs.Refusing.{passes}
+use Rattle.theory.proofs.Texts.{whole-fits}
 use Rattle.naming.specs.Named.{FreeInHeap}
 use Rattle.naming.proofs.NamedObjects.{names_tests, free_in_heap}
-use Rattle.writer_measuring.specs.Measured.{limit, number_of, why_of, measured}
+use Rattle.writer_measuring.specs.Measured.{measured}
 use Rattle.writer_measuring.specs.Forms.{named_in, why_unnamed, form_in}
-use Rattle.writer_measuring.proofs.Rooms.{number_above, left_of, measured-spelled}
+use Rattle.writer_measuring.proofs.Rooms.{left_of, measured-spelled}
 use Rattle.writer_spelling.specs.Going.{reached, goes, Arrives}
 use Rattle.writer_spelling.proofs.Steps.{comes, goes-spelled}
 
@@ -79,40 +81,13 @@ module _ (s : State) (fits : FreeInHeap s.heap s.«record») (first : ℕ) (e : 
   word_pieces : (d w : ℕ) → value_pieces (form_in first (free s) s.heap) d w ≡ value_pieces (word_form tuple s) d w
   word_pieces d w = ap (λ (form : ℕ → Form ℕ). value_pieces form d w) (fun_ext form_word)
 
--- ---- why there is no text
-
--- each refusal of a piece has a number of its own
-abbrev Known : Refusal → Type 0
-Known k = why_of (number_of k) ≡ k
-
-known_form : (odd plain named traced : Bool) (v : ℤ) (vs : List ℕ) (k : Refusal)
-    → cond odd (as_integer v) (cond plain (textless Why.Value)
-    (cond (not named) (textless Why.Object) (cond traced (as_tuple vs) (textless Why.Value)))) ≡ textless k → Known k
-known_form true _ _ _ v vs k e = let z : ◌≡◌ {A = ℕ} 0 1 = cc in absurd (omega arith)
-known_form false true _ _ v vs k e = subst Known (textless-same Why.Value k e) refl
-known_form false false false _ v vs k e = subst Known (textless-same Why.Object k e) refl
-known_form false false true true v vs k e = let z : ◌≡◌ {A = ℕ} 0 1 = cc in absurd (omega arith)
-known_form false false true false v vs k e = subst Known (textless-same Why.Value k e) refl
-
-known-word : (s : State) (w : ℕ) (k : Refusal) → word_form tuple s w ≡ textless k → Known k
-unfolding word_form
-known-word s w k e =
-    known_form (is_odd w) (is_null w || is_code w) (names tuple s w) (is_traced (kind tuple s.heap (index tuple w))) (untag w)
-    (field_words tuple s.heap (index tuple w)) k e
-
-known_pieces : (s : State) (n d w : ℕ) (k : Refusal) → spelled n (value_pieces (word_form tuple s) d w) ≡ broken k → Known k
-known_pieces s n d w k e =
-    broken-fault Known refl n (value_pieces (word_form tuple s) d w) k
-    (pieces_faults (word_form tuple s) Known refl (known-word s) d w) e
-
 -- ---- measured and spelled
 
 module _ {L : Type 0} (with : List ℕ → L) (t : List ℕ) where
-  refused : (m : ℕ) (x : Spelled) → length t < limit → m ≡ left_of (length t) x → limit ≤ m →
-      ((k : Refusal) → x ≡ broken k → Known k)
-      → says (Says.Refused (why_of m)) (with t) ≡ writes with (with t) t x
-  refused m (whole bs) l e h known = absurd (omega arith)
-  refused m (broken k) l e h known = ap (λ (j : Refusal). says (Says.Refused j) (with t)) (ap why_of e ∙ known k refl)
+  refused : (k : Refusal) (x : Spelled) → Err k ≡ left_of (length t) x
+      → Answers.refused k (with t) ≡ writes with (with t) t x
+  refused k (whole bs) e = cc
+  refused k (broken j) e = let g : k ≡ j = cc in ap (λ (i : Refusal). Answers.refused i (with t)) g
 
   spelt : (n : ℕ) (u : List ℕ) (x : Spelled) → ((bs : List ℕ) → x ≡ whole bs → length bs ≤ length t) → reached n u
       ≡ comes 0 t x
@@ -127,28 +102,19 @@ module _ {L : Type 0} (with : List ℕ → L) (t : List ℕ) where
       ∙ ap (λ (v : List ℕ). says (Says.Written (length bs)) (with v))
       (b ∙ sets-eq bs t 0 l ∙ ap (λ (k : ℕ). bs ++ drop k t) o)
 
-arrived : (m : ℕ) (t : List ℕ) (x : Spelled) → m ≡ left_of (length t) x → m < limit → Arrives (comes 0 t x)
-arrived m t (whole bs) e h = tt
-arrived m t (broken k) e h = absurd (omega (arith, number_above k))
+arrived : (m : ℕ) (t : List ℕ) (x : Spelled) → Ok m ≡ left_of (length t) x → Arrives (comes 0 t x)
+arrived m t (whole bs) e = tt
+arrived m t (broken k) e = let z : ◌≡◌ {A = ℕ} 0 1 = cc in absurd (omega arith)
 
 -- ---- the call
 
--- what is said with the record
-pub said_text : {r : Answered} {a : Answer} {q : Record} {o : Outcome State} (H R t : List ℕ)
-    → r ≡ record { answer = a; «record» = q } → says a (with_text t (state_of H R q)) ≡ o
-    → says r.answer (with_text t (state_of H R r.«record»)) ≡ o
-said_text H R t e f = ap (λ (x : Answered). says x.answer (with_text t (state_of H R x.«record»))) e ∙ f
-
 module _ (root : ℕ) (s : State) where
-  pub write_shape : bad_shape s ≡ true → says (Says.Refused Why.Shape) s ≡ write tuple root s
+  -- whatever `admit` says against it
+  pub write_unadmitted : {x : Result ⊤ Refusal} {k : Refusal} → x ≡ admits (root ∷ []) s → x ≡ Err k → Answers.refused k s ≡ write tuple root s
   unfolding write
-  write_shape h = applies _ h
+  write_unadmitted e h = not_admitted (root ∷ []) s e _ h
 
   module _ (shape : bad_shape s ≡ false) where
-    pub write_root : leb (length s.roots) root ≡ true → says (Says.Refused Why.Root) s ≡ write tuple root s
-    unfolding write
-    write_root h = passes _ _ shape (applies _ h)
-
     module _ (there : leb (length s.roots) root ≡ false) (first : ℕ) (e : first ≡ first_word s) where
       -- what is gone over
       abbrev pub root_pieces : List Piece
@@ -167,18 +133,16 @@ module _ (root : ℕ) (s : State) where
       unfolding write
       called o f = passes _ _ shape (passes _ _ there f)
 
-      module _ (m : ℕ) (room : m ≡ measured (length s.text) root_pieces) where
-        measuring : m ≡ left_of (length s.text) (root_spelled tuple root s)
-        measuring = room ∙ ap (measured (length s.text)) same_pieces ∙ measured-spelled _ (length s.text)
+      measuring : measured (length s.text) root_pieces ≡ left_of (length s.text) (root_spelled tuple root s)
+      measuring = ap (measured (length s.text)) same_pieces ∙ measured-spelled _ (length s.text)
 
-        pub write-refused : length s.text < limit → limit ≤ m → says (Says.Refused (why_of m)) s ≡ write tuple root s
-        write-refused l h =
-            called _
-            (refused (λ t. with_text t s) s.text m (root_spelled tuple root s) l measuring h
-            (λ k f. known_pieces s (length s.text) max_depth (root_word s root) k f))
+      pub write-refused : (k : Refusal) → Err k ≡ measured (length s.text) root_pieces
+          → Answers.refused k s ≡ write tuple root s
+      write-refused k r =
+          called _ (refused (λ t. with_text t s) s.text k (root_spelled tuple root s) (r ∙ measuring))
 
-        pub write_arrives : m < limit → Arrives (goes root_pieces 0 s.text)
-        write_arrives h = subst Arrives (sym spelling) (arrived m s.text (root_spelled tuple root s) measuring h)
+      pub write_arrives : (m : ℕ) → Ok m ≡ measured (length s.text) root_pieces → Arrives (goes root_pieces 0 s.text)
+      write_arrives m r = subst Arrives (sym spelling) (arrived m s.text (root_spelled tuple root s) (r ∙ measuring))
 
       pub write-spelt : (n : ℕ) (u : List ℕ) → reached n u ≡ goes root_pieces 0 s.text
           → says (Says.Written n) (with_text u s) ≡ write tuple root s

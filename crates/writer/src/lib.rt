@@ -7,35 +7,37 @@
 #![tactic(auto)]
 
 ghost use Rattle.std.specs.Prelude.{◌≡◌};
+ghost use Rattle.model.specs.Words.{text_state_of};
 ghost use Rattle.model.specs.Headers as Layouts;
-ghost use Rattle.model.specs.Agreements.{lent_text, outcome_text};
+ghost use Rattle.model.specs.Agreements.{kept_text};
 ghost use Rattle.model.specs.Calls as Calls;
 
-use model::{Answer, Answered, Record, Refusal, say};
-use words::shape::{bad_shape, first_of, half_words};
-use writer_measuring::{REFUSED, measure_root, refusal_of};
+use model::{Answer, Record, Refusal};
+use words::admission::admit;
+use words::shape::{first_of, half_words};
+use writer_measuring::measure_root;
+use writer_measuring::used::UsedPart;
 use writer_spelling::spell_root;
 
 // The text of what root `root` holds, into the first bytes of `text`: its length; or SHAPE, ROOT, OBJECT,
 // VALUE, DEEP or TEXT, and then no byte changes. Leaves the heap, the roots and the record.
-pub fn write(heap: &[u32], roots: &[u32], record: Record, root: usize, text: &mut [u8]) -> Answered
-    ensures { outcome_text result heap.now roots.now text.new
-        ≡ Calls.write Layouts.tuple root (lent_text heap.now roots.now «record» text.old) }
+pub fn write(
+    heap: &[u32],
+    roots: &[u32],
+    record: Record,
+    root: usize,
+    text: &mut [u8],
+) -> Result<Answer, Refusal>
+    ensures { kept_text result heap.now roots.now «record» text.new
+        ≡ Calls.write Layouts.tuple root (text_state_of heap.now roots.now «record» text.old) }
 {
-    if bad_shape(heap.len(), roots.len(), record) {
-        return say(Answer::Refused(Refusal::Shape), record);
-    }
-    if roots.len() <= root {
-        return say(Answer::Refused(Refusal::Root), record);
-    }
+    admit(heap, roots, record, root)?;
     let word = roots[root];
-    let half = record.half;
-    let free = record.free.0;
-    let first = first_of(half_words(heap.len()), half).0;
-    let left = measure_root(heap, first, free, text.len(), word);
-    if REFUSED <= left {
-        return say(Answer::Refused(refusal_of(left)), record);
-    }
-    let length = spell_root(heap, first, free, text, word);
-    say(Answer::Written(length), record)
+    let used = UsedPart {
+        heap,
+        first: first_of(half_words(heap.len()), record.half).0,
+        free: record.free.0,
+    };
+    measure_root(&used, text.len(), word)?;
+    Ok(Answer::Written(spell_root(&used, text, word)))
 }

@@ -8,6 +8,8 @@ use mathlib.Core.List.{List, [], ◌∷◌, map}
 use lib.Dec.{ltb, leb, eqb}
 use lib.ListN.{length}
 use borrow.Author.Tests.{ltb-true}
+use Rattle.std.specs.Prelude.{Result, Ok, Err}
+use Rattle.model.specs.declared.Refusal.{Refusal}
 use Rattle.model.specs.declared.Refusal.TheVariants as Why
 use Rattle.model.specs.Words.{at}
 use Rattle.model.specs.Values.{is_odd, untag}
@@ -16,17 +18,21 @@ use Rattle.model.specs.Objects.{index, field_count, is_traced}
 use Rattle.model.specs.Texts.{Form, as_tuple, Piece, byte, fault, integer_text, tuple_pieces, value_pieces, enclosed}
 use mathlib.Core.Logic.{⊎_elim}
 use Rattle.theory.proofs.Tests.{by_test, and_both}
-use Rattle.writer_measuring.specs.Forms.{named_in, why_unnamed, textless_number, fields_at, form_in}
-use Rattle.writer_measuring.specs.Measured.{number_of, measured, spent}
+use Rattle.writer_measuring.specs.Forms.{named_in, why_unnamed, tuple_named, fields_at, form_in}
+use Rattle.writer_measuring.specs.Measured.{measured, spent}
 use Rattle.writer_measuring.specs.Tuples.{object_in}
-use Rattle.writer_measuring.proofs.Rooms.{number_above, at-fault, spent-bytes}
+use Rattle.writer_measuring.proofs.Rooms.{spent-bytes}
 
 -- a tuple's pieces by the code's d - 1
-tuple-more : (form : ℕ → Form ℕ) (d : ℕ) → (d ≡ 0 → ⊥) → (vs : List ℕ)
+pub tuple-more : (form : ℕ → Form ℕ) (d : ℕ) → (d ≡ 0 → ⊥) → (vs : List ℕ)
     → tuple_pieces form d vs ≡ enclosed byte (map (λ v. value_pieces form (d - 1) v) vs)
 unfolding tuple_pieces
 tuple-more form zero z vs = absurd (z refl)
 tuple-more form (suc d) z vs = rw (sub-one (suc d))
+
+pub tuple-deep : (form : ℕ → Form ℕ) (d : ℕ) → d ≡ 0 → (vs : List ℕ) → fault Why.Deep ∷ [] ≡ tuple_pieces form d vs
+unfolding tuple_pieces
+tuple-deep form d z vs = rw z
 
 module _ (first last : ℕ) (H : List ℕ) (d w : ℕ) where
   abbrev pieces : List Piece
@@ -36,10 +42,10 @@ module _ (first last : ℕ) (H : List ℕ) (d w : ℕ) where
   unfolding form_in
   odd_pieces o = simp o
 
-  pub odd-left : is_odd w ≡ true → (room count r : ℕ) → count ≡ length (integer_text (untag w)) → r ≡ spent room count
-      → r ≡ measured room pieces
-  odd-left o room count r e f =
-      f ∙ (ap (spent room) e ∙ (spent-bytes (integer_text (untag w)) room ∙ ap (measured room) (odd_pieces o)))
+  pub odd-left : is_odd w ≡ true → (room count : ℕ) → count ≡ length (integer_text (untag w))
+      → spent room count ≡ measured room pieces
+  odd-left o room count e =
+      ap (spent room) e ∙ (spent-bytes (integer_text (untag w)) room ∙ ap (measured room) (odd_pieces o))
 
   module _ (even : is_odd w ≡ false) where
     pub unnamed_pieces : named_in first last H w ≡ false → fault (why_unnamed w) ∷ [] ≡ pieces
@@ -55,6 +61,9 @@ module _ (first last : ℕ) (H : List ℕ) (d w : ℕ) where
         as_tuple_lem : form_in first last H w ≡ as_tuple (fields_at H i (field_count tuple H i))
         unfolding form_in
         as_tuple_lem = let v = rw e at traced in simp (even, named, v, e)
+
+        pub nested_pieces : tuple_pieces (form_in first last H) d (fields_at H i (field_count tuple H i)) ≡ pieces
+        nested_pieces = rw as_tuple_lem
 
         pub deep_pieces : d ≡ 0 → fault Why.Deep ∷ [] ≡ pieces
         unfolding tuple_pieces
@@ -86,48 +95,40 @@ pub record Told (first last : ℕ) (H : List ℕ) (w : ℕ) : Type 0 where
   pub named : named_in first last H w ≡ true
   pub traced : is_traced (tuple.kind_of (at H (index tuple w))) ≡ true
 
--- by the number of why it has no text
-module _ (first last : ℕ) (H : List ℕ) (w m : ℕ) (e : m ≡ textless_number first last H w) where
-  unnamed_number : named_in first last H w ≡ false → m ≡ number_of (why_unnamed w)
-  unfolding textless_number
-  unnamed_number n = e ∙ simp n
-
-  module _ (named : named_in first last H w ≡ true) where
-    untraced_number : is_traced (tuple.kind_of (at H (index tuple w))) ≡ false → m ≡ number_of Why.Value
-    unfolding textless_number
-    untraced_number u = e ∙ simp (named, u)
-
-    tuple_number : is_traced (tuple.kind_of (at H (index tuple w))) ≡ true → m ≡ 0
-    unfolding textless_number
-    tuple_number r = e ∙ simp (named, r)
-
-  pub number_told : m ≡ 0 → Told first last H w
-  number_told z =
+-- by where it stands, or by why the word names none
+module _ (first last : ℕ) (H : List ℕ) (w : ℕ) where
+  sorted : (P : Result ℕ Refusal → Type 0) → (Told first last H w → P (Ok (index tuple w)))
+      → (named_in first last H w ≡ true → is_traced (tuple.kind_of (at H (index tuple w))) ≡ false → P (Err Why.Value))
+      → (named_in first last H w ≡ false → P (Err (why_unnamed w))) → P (tuple_named first last H w)
+  unfolding tuple_named
+  sorted P t u m =
       ⊎_elim
       (λ (n : named_in first last H w ≡ true).
       ⊎_elim
-      (λ (r : is_traced (tuple.kind_of (at H (index tuple w))) ≡ true). record { named = n; traced = r })
-      (λ (u : is_traced (tuple.kind_of (at H (index tuple w))) ≡ false). absurd (omega (arith, untraced_number n u)))
+      (λ (r : is_traced (tuple.kind_of (at H (index tuple w))) ≡ true). simp (n, r) (t (record { named = n; traced = r })))
+      (λ (r : is_traced (tuple.kind_of (at H (index tuple w))) ≡ false). simp (n, r) (u n r))
       (by_test (is_traced (tuple.kind_of (at H (index tuple w))))))
-      (λ (n : named_in first last H w ≡ false).
-      absurd (omega (arith, unnamed_number n, number_above (why_unnamed w))))
+      (λ (n : named_in first last H w ≡ false). simp n (m n))
       (by_test (named_in first last H w))
 
-  pub number_stops : (d room : ℕ) → is_odd w ≡ false → (m ≡ 0 → ⊥) → m ≡ measured room
-      (value_pieces (form_in first last H) d w)
-  number_stops d room even some =
-      ⊎_elim
-      (λ (n : named_in first last H w ≡ true).
-      ⊎_elim
-      (λ (r : is_traced (tuple.kind_of (at H (index tuple w))) ≡ true). absurd (some (tuple_number n r)))
-      (λ (u : is_traced (tuple.kind_of (at H (index tuple w))) ≡ false).
-      untraced_number n u
-      ∙ (at-fault Why.Value room ∙ ap (measured room) (untraced_pieces first last H d w even _ refl n u)))
-      (by_test (is_traced (tuple.kind_of (at H (index tuple w))))))
-      (λ (n : named_in first last H w ≡ false).
-      unnamed_number n
-      ∙ (at-fault (why_unnamed w) room ∙ ap (measured room) (unnamed_pieces first last H d w even n)))
-      (by_test (named_in first last H w))
+  pub tuple_found : (i : ℕ) → Ok i ≡ tuple_named first last H w → (i ≡ index tuple w) × Told first last H w
+  tuple_found i e =
+      sorted (λ (r : Result ℕ Refusal). Ok i ≡ r → (i ≡ index tuple w) × Told first last H w)
+      (λ t f. (cc, t))
+      (λ n r f. absurd (let z : ◌≡◌ {A = ℕ} 0 1 = cc in omega arith))
+      (λ n f. absurd (let z : ◌≡◌ {A = ℕ} 0 1 = cc in omega arith))
+      e
+
+  pub tuple_refused : (k : Refusal) → Err k ≡ tuple_named first last H w → (d : ℕ) → is_odd w ≡ false
+      → fault k ∷ [] ≡ value_pieces (form_in first last H) d w
+  tuple_refused k e d even =
+      sorted (λ (r : Result ℕ Refusal). Err k ≡ r → fault k ∷ [] ≡ value_pieces (form_in first last H) d w)
+      (λ t f. absurd (let z : ◌≡◌ {A = ℕ} 0 1 = cc in omega arith))
+      (λ n r f. let g : k ≡ Why.Value = cc in
+      ap (λ (j : Refusal). fault j ∷ []) g ∙ untraced_pieces first last H d w even _ refl n r)
+      (λ n f. let g : k ≡ why_unnamed w = cc in
+      ap (λ (j : Refusal). fault j ∷ []) g ∙ unnamed_pieces first last H d w even n)
+      e
 
 -- what a tuple's word is written by
 module _ (first last : ℕ) (H : List ℕ) (w i : ℕ) (e : i ≡ index tuple w) (told : Told first last H w) where
@@ -140,3 +141,9 @@ module _ (first last : ℕ) (H : List ℕ) (w i : ℕ) (e : i ≡ index tuple w)
       tuple_pieces_lem first last H d w even i e told.named
       (ap (λ (j : ℕ). is_traced (tuple.kind_of (at H j))) e ∙ told.traced)
       levels
+
+  pub told_nested : (d : ℕ) → is_odd w ≡ false
+      → tuple_pieces (form_in first last H) d (fields_at H i (field_count tuple H i)) ≡ value_pieces (form_in first last H) d w
+  told_nested d even =
+      nested_pieces first last H d w even i e told.named
+      (ap (λ (j : ℕ). is_traced (tuple.kind_of (at H j))) e ∙ told.traced)

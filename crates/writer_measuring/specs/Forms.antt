@@ -1,19 +1,13 @@
 -- What a word is to its text, by the heap's words and the used part's ends alone, in the order in which the writer tests.
 -- The form itself is defined in `model`; the law that joins the two is `writer`'s, in proofs/.
-use Rattle.std.specs.Prelude.{ℕ, ◌+◌, ◌-◌, ◌%◌, ◌≤◌, Bool, cond, ◌&&◌, List, ltb, leb, eqb, length, take, drop}
+use Rattle.std.specs.Prelude.{ℕ, ◌+◌, ◌-◌, ◌%◌, Bool, cond, ◌&&◌, List, ltb, leb, eqb, take, drop, Result, Ok, Err}
 use Rattle.model.specs.declared.Refusal.{Refusal}
 use Rattle.model.specs.declared.Refusal.TheVariants as Why
 use Rattle.model.specs.Words.{at}
 use Rattle.model.specs.Values.{is_odd, is_null, is_code, untag}
 use Rattle.model.specs.Headers.{tuple}
 use Rattle.model.specs.Objects.{index, field_count, is_traced}
-use Rattle.writer_measuring.specs.Measured.{number_of}
 use Rattle.model.specs.Texts.{Form, as_integer, as_tuple, textless}
-
--- each index from `first` up to `free` is that of a word
-pub record Used (H : List ℕ) (first free : ℕ) : Type 0 where
-  pub begins : first ≤ free
-  pub within : free ≤ length H
 
 -- a word names an object of the used part: the tests of `Objects.names` that SHAPE leaves
 unfoldable pub named_in : ℕ → ℕ → List ℕ → ℕ → Bool
@@ -24,15 +18,12 @@ named_in first free H w =
 unfoldable pub why_unnamed : ℕ → Refusal
 why_unnamed w = cond (is_null w) Why.Value (cond (is_code w) Why.Value Why.Object)
 
-abbrev pub unnamed_number : ℕ → ℕ
-unnamed_number w = number_of (why_unnamed w)
-
--- 0 where an even word names a tuple
-unfoldable pub textless_number : ℕ → ℕ → List ℕ → ℕ → ℕ
-textless_number first free H w =
+-- where the tuple stands that an even word names, or why the word has no text
+unfoldable pub tuple_named : ℕ → ℕ → List ℕ → ℕ → Result ℕ Refusal
+tuple_named first free H w =
     cond (named_in first free H w)
-    (cond (is_traced (tuple.kind_of (at H (index tuple w)))) 0 (number_of Why.Value))
-    (unnamed_number w)
+    (cond (is_traced (tuple.kind_of (at H (index tuple w)))) (Ok (index tuple w)) (Err Why.Value))
+    (Err (why_unnamed w))
 
 -- the n words after the one at i
 abbrev pub fields_at : List ℕ → ℕ → ℕ → List ℕ

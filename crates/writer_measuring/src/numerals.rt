@@ -1,15 +1,11 @@
-// How many bytes an integer has: its digits are counted by comparisons, so that only what is written is
-// divided.
+// How many bytes an integer has. Its digits are counted by comparisons, three steps a digit: std's `ilog10`
+// takes ten steps for any number, which is more for the short ones.
 ghost use Rattle.std.specs.Prelude.{◌≡◌, ◌≤◌, length};
 ghost use Rattle.model.specs.Values.{untag};
 ghost use Rattle.model.specs.Texts.{digits, integer_text};
 ghost use Rattle.writer_measuring.specs.Numerals.{padded};
 
-// From here on an odd word is a negative integer's.
-pub const NEGATIVE: u32 = 2147483648;
-
-// The word of -1.
-pub const LAST_WORD: u32 = 4294967295;
+use words::values::{LAST_WORD, NEGATIVE};
 
 // How many decimal digits a number has, with no leading zeros.
 pub fn digit_count(number: u32) -> usize

@@ -5,6 +5,7 @@ use mathlib.Core.Path.{◌≡◌, sym, ap, ◌∙◌, subst}
 use mathlib.Core.List.{List, [], ◌∷◌, map}
 use lib.ListN.{length, get_or, set}
 use Rattle.model.specs.Texts.{Piece, byte}
+use Rattle.writer_measuring.specs.Forms.{fields_at}
 use Rattle.writer_measuring.specs.Tuples.{no_fields, lead, closer_of, tuple_in}
 use Rattle.writer_measuring.proofs.Fields.{field_pieces, rest_pieces, on_pieces, none_pieces, all_pieces, on_pieces_lem, end_pieces}
 use Rattle.writer_spelling.specs.Going.{reached, goes, Arrives}
@@ -36,10 +37,10 @@ module _ (first last : ℕ) (H : List ℕ) (d i n : ℕ) (within : i + n < lengt
         lead-goes = on_from (map byte (lead n f)) (on_pieces first last H d i n within f) from place t u leads
             ∙ ap (λ (ps : List Piece). goes ps place t) (on_pieces_lem first last H d i n within f more)
 
-        pub field_arrives : Arrives (goes (field_pieces first last H d (get_or H (i + 1 + f) 0)) from u)
+        pub field_arrives : Arrives (goes (field_pieces first last H d (get_or (fields_at H i n) f 0)) from u)
         field_arrives = arrives_first _ (rest_pieces first last H d i n (f + 1)) _ _ (subst Arrives (sym lead-goes) a)
 
-        pub field-goes : (r : ℕ) (v : List ℕ) → reached r v ≡ goes (field_pieces first last H d (get_or H (i + 1 + f) 0)) from u
+        pub field-goes : (r : ℕ) (v : List ℕ) → reached r v ≡ goes (field_pieces first last H d (get_or (fields_at H i n) f 0)) from u
             → goes (rest_pieces first last H d i n (f + 1)) r v ≡ goes (rest_pieces first last H d i n f) place t
         field-goes r v g = on_from _ (rest_pieces first last H d i n (f + 1)) r _ _ v g ∙ lead-goes
 

@@ -6,11 +6,9 @@ ghost use Rattle.model.specs.Texts.{byte, digits, integer_text};
 ghost use Rattle.writer_measuring.specs.Numerals.{padded};
 ghost use Rattle.writer_spelling.specs.Going.{reached, goes};
 
-use writer_measuring::numerals::{LAST_WORD, NEGATIVE, digit_count};
-
-const MINUS: u8 = 126;
-
-const ZERO: u8 = 48;
+use words::texts::{MINUS, ZERO};
+use words::values::{LAST_WORD, NEGATIVE};
+use writer_measuring::numerals::digit_count;
 
 // The last `count` digits of a number, stored from the right.
 fn store_digits(text: &mut [u8], at: usize, count: usize, number: u32)
@@ -18,9 +16,7 @@ fn store_digits(text: &mut [u8], at: usize, count: usize, number: u32)
     ensures { text.new ≡ sets text.old at (padded count number) }
 {
     let mut rest = number;
-    let mut place = at + count;
-    while at < place {
-        place -= 1;
+    for place in (at..at + count).rev() {
         text[place] = ZERO + (rest % 10) as u8;
         rest /= 10;
     }

@@ -1,22 +1,21 @@
 -- `checker::check` meets its contract: a law for each return.
 use mathlib.Core.Path.{sym, ◌∙◌}
 use Rattle.model.specs.Headers.{tuple}
-use Rattle.theory.proofs.Refusing.{said}
 use Rattle.checker.proofs.Returns.{check-refused, check_sound, check-unsound}
 use Rattle.checker.proofs.check.Goals as goal
 
 pub returns-then-bad_shape : goal.returns-then-bad_shape
 returns-then-bad_shape c =
-    said _ _ c.say.ensures (check-refused tuple _ _ _ (sym c.bad_shape.ensures ∙ c.if-bad_shape.true))
+    check-refused tuple _ _ _ (sym c.bad_shape.ensures ∙ c.if-bad_shape.true)
 
 pub returns-then-is_sound : goal.returns-then-is_sound
 returns-then-is_sound c =
     let k = c.is_sound.ensures in
     let fair = sym c.bad_shape.ensures ∙ c.if-bad_shape.false in
-    said _ _ c.say-then-is_sound.ensures (check_sound tuple _ _ _ fair _ k.1 (sym c.if-is_sound.true ∙ k.0))
+    check_sound tuple _ _ _ fair _ k.1 (sym c.if-is_sound.true ∙ k.0)
 
 pub returns : goal.returns
 returns c =
     let k = c.is_sound.ensures in
     let fair = sym c.bad_shape.ensures ∙ c.if-bad_shape.false in
-    said _ _ c.say-2.ensures (check-unsound tuple _ _ _ fair _ k.1 (sym c.if-is_sound.false ∙ k.0))
+    check-unsound tuple _ _ _ fair _ k.1 (sym c.if-is_sound.false ∙ k.0)

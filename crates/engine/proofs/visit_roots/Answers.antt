@@ -3,35 +3,32 @@
 use Prim.Native.Nat.{◌<◌}
 use native.Mathlib.Omega.{arith}
 use mathlib.Core.Path.{sym, ◌∙◌}
-use lib.ListN.{length, length-set}
-use Rattle.model.specs.Headers.{tuple}
-use Rattle.engine.proofs.RootLaws.{roots-done, root_may, root-counts, root-length, root-safe, root_turn}
+use lib.ListN.{length}
+use Rattle.engine.proofs.RootLaws.{roots-done, root_may, root-counts, root-safe, root_turn}
 use Rattle.engine.proofs.visit_roots.Goals as goal
 
-pub rename-m-requires : goal.rename-m-requires
-rename-m-requires c =
-    let l = c.loop-i in
-    root_may _ _ l.roots _ l.i _ (omega (arith, c.loop-i-test)) l.invariant.2
+pub rename-renamed-requires : goal.rename-renamed-requires
+rename-renamed-requires c =
+    let l = c.loop-root in
+    root_may _ _ l.roots _ l.root-index _ (omega arith) l.invariant.1
 
-pub count-tally-requires : goal.count-tally-requires
-count-tally-requires c =
-    let l = c.loop-i in
-    root-counts tuple l.heap l.roots l.free.0 l.i _ (omega (arith, c.loop-i-test)) l.invariant.2
+pub past-so_far-requires : goal.past-so_far-requires
+past-so_far-requires c =
+    let l = c.loop-root in
+    root-counts _ l.heap l.roots l.so_far.free.0 l.root-index _ (omega arith) l.invariant.1
 
-pub loop-i-preserved : goal.loop-i-preserved
-loop-i-preserved c =
-    let l = c.loop-i in
-    let m : l.i < length l.roots = omega (arith, c.loop-i-test) in
-    let e = c.rename-m.ensures in
-    let n = c.count-tally.ensures in (
-      simp length-set (omega arith),
-      root_turn _ _ _ _ _ _ m l.invariant.2 _ _ e n ∙ l.invariant.1,
-      root-safe _ _ _ _ _ _ m l.invariant.2 _ _ e n,
-      root-length _ _ _ _ _ _ m l.invariant.2 _ _ e n ∙ l.invariant.3,
-      simp length-set l.invariant.4,
+pub loop-root-preserved : goal.loop-root-preserved
+loop-root-preserved c =
+    let l = c.loop-root in
+    let m : l.root-index < length l.roots = omega arith in
+    let e = c.rename-renamed.ensures in
+    let n = c.past-so_far.ensures.tally in
+    rw c.past-so_far.ensures.free (
+      root_turn _ _ _ _ _ _ m l.invariant.1 _ _ e n ∙ l.invariant.0,
+      root-safe _ _ _ _ _ _ m l.invariant.1 _ _ e n,
     )
 
 pub returns : goal.returns
 returns c =
-    let l = c.loop-i in
-    sym (roots-done _ l.heap l.roots l.free.0 l.i l.tally (omega arith)) ∙ l.invariant.1
+    let l = c.loop-root in
+    sym (roots-done _ l.heap l.roots l.so_far.free.0 l.root-index l.so_far.tally (omega arith)) ∙ l.invariant.0

@@ -1,21 +1,15 @@
 -- `engine::visit_roots` meets its contract. The invariant: the roots renamed so far, with what the others
 -- give, are what all gave.
-use Prim.Native.Nat.{◌-◌, ◌≤◌}
 use mathlib.Core.Path.{◌≡◌}
-use lib.ListN.{length, take, drop}
+use lib.ListN.{take, drop}
 use Rattle.model.specs.Headers.{tuple}
+use Rattle.engine_moving.specs.Moving.{none_met}
 use Rattle.engine.specs.Evacuation.{rooted, SafeRoots}
 use Rattle.engine.proofs.RootLaws.{joined}
 use Rattle.engine.proofs.visit_roots.Given as goal
 
-abbrev pub invariant-loop-i : goal.invariant-loop-i
-invariant-loop-i l =
-    (l.i ≤ length l.roots)
-    × (joined (take l.i l.roots) (rooted tuple l.heap (drop l.i l.roots) l.free.0 l.tally)
-    ≡ rooted tuple l.initial.heap l.initial.roots l.initial.free.0 l.initial.tally)
-    × SafeRoots tuple l.heap (drop l.i l.roots) l.free.0 l.tally
-    × (length l.heap ≡ length l.initial.heap)
-    × (length l.roots ≡ length l.initial.roots)
-
-abbrev pub decreases-loop-i : goal.decreases-loop-i
-decreases-loop-i l = length l.roots - l.i
+abbrev pub invariant-loop-root : goal.invariant-loop-root
+invariant-loop-root l =
+    (joined (take l.root-index l.roots) (rooted tuple l.heap (drop l.root-index l.roots) l.so_far.free.0 l.so_far.tally)
+    ≡ rooted tuple l.initial.heap l.initial.roots l.fn.new.0 none_met)
+    × SafeRoots tuple l.heap (drop l.root-index l.roots) l.so_far.free.0 l.so_far.tally

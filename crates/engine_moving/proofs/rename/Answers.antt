@@ -9,7 +9,7 @@ returns-then-is_address c =
       renamed-address _ _ _ _ (sym c.is_address.ensures ∙ c.if-is_address.true),
       ← c.index_of.ensures,
     )
-    c.relocate-m.ensures
+    c.relocate.ensures
 
 pub returns : goal.returns
 returns c = sym (renamed-plain _ _ _ _ (sym c.is_address.ensures ∙ c.if-is_address.false))

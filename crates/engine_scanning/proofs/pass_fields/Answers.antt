@@ -6,31 +6,30 @@ use Rattle.engine_scanning.proofs.ObjectLaws.{field_may, field-counts, field-kee
 use Rattle.engine_scanning.proofs.ObjectLaws.{fields-done}
 use Rattle.engine_scanning.proofs.pass_fields.Goals as goal
 
-pub pass_field-f-requires : goal.pass_field-f-requires
-pass_field-f-requires c =
+pub pass_field-renamed-requires : goal.pass_field-renamed-requires
+pass_field-renamed-requires c =
     let l = c.loop-at in
-    field_may _ _ _ _ _ _ c.loop-at-test.true l.invariant.1 l.invariant.3
+    field_may _ _ _ _ _ _ c.loop-at-test.true l.invariant.0 l.invariant.2
 
-pub count-tally-requires : goal.count-tally-requires
-count-tally-requires c =
+pub past-so_far-requires : goal.past-so_far-requires
+past-so_far-requires c =
     let l = c.loop-at in
-    field-counts _ _ _ _ _ _ c.loop-at-test.true l.invariant.1 l.invariant.3
+    field-counts _ _ _ _ _ _ c.loop-at-test.true l.invariant.0 l.invariant.2
 
 pub loop-at-preserved : goal.loop-at-preserved
 loop-at-preserved c =
     let l = c.loop-at in
     let m = c.loop-at-test.true in
-    let e = c.pass_field-f.ensures in
-    let n = c.count-tally.ensures in
-    let k = field-keeps _ _ _ _ _ _ m l.invariant.1 l.invariant.3 _ _ _ _ e n in (
-      omega arith,
+    let e = c.pass_field-renamed.ensures in
+    let n = c.past-so_far.ensures.tally in
+    let k = field-keeps _ _ _ _ _ _ m l.invariant.0 l.invariant.2 _ _ _ _ e n in
+    rw c.past-so_far.ensures.free (
       omega (arith, k.grows),
-      field-run _ _ _ _ _ _ m l.invariant.1 l.invariant.3 _ _ _ _ e n ∙ l.invariant.2,
-      field-safe _ _ _ _ _ _ m l.invariant.1 l.invariant.3 _ _ _ _ e n,
-      k.same ∙ l.invariant.4,
+      field-run _ _ _ _ _ _ m l.invariant.0 l.invariant.2 _ _ _ _ e n ∙ l.invariant.1,
+      field-safe _ _ _ _ _ _ m l.invariant.0 l.invariant.2 _ _ _ _ e n,
     )
 
 pub returns : goal.returns
 returns c =
     let l = c.loop-at in
-    sym (fields-done _ _ l.at _ _ _ (omega arith)) ∙ l.invariant.2
+    sym (fields-done _ _ l.at _ _ _ (omega arith)) ∙ l.invariant.1

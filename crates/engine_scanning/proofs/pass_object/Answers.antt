@@ -20,15 +20,15 @@ overflow_add-next c =
       c.size_of.ensures,
     )
 
-pub pass_fields-f-requires : goal.pass_fields-f-requires
-pass_fields-f-requires c =
+pub pass_fields-swept-requires : goal.pass_fields-swept-requires
+pass_fields-swept-requires c =
     fields_may _ _ _ _ _ c.requires _ c.count_of-n.ensures.is
     (sym c.is_traced.ensures ∙ c.if-is_traced.true)
 
 pub returns-then-is_traced : goal.returns-then-is_traced
 returns-then-is_traced c =
     traced-is _ _ _ _ _ c.requires _ c.count_of-n.ensures.is
-    (sym c.is_traced.ensures ∙ c.if-is_traced.true) _ _ _ _ c.pass_fields-f.ensures
+    (sym c.is_traced.ensures ∙ c.if-is_traced.true) _ _ _ _ c.pass_fields-swept.ensures
     (omega (arith, c.size_of.ensures, c.count_of-n.ensures.is))
 
 pub returns : goal.returns

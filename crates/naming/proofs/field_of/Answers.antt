@@ -7,7 +7,7 @@ use lib.Dec.{leb}
 use mathlib.Core.Bool.{not}
 use mathlib.Core.List.{[]}
 use Rattle.model.specs.Words.{state_of}
-use Rattle.naming.proofs.NamedObjects.{header_in, field_tests}
+use Rattle.naming.proofs.NamedObjects.{header_in, other-kind, field_tests}
 use Rattle.naming.proofs.field_of.Goals as goal
 
 pub returns-then-not-names : goal.returns-then-not-names
@@ -20,17 +20,17 @@ bounds-heap-at c =
     rw c.index_of-at.ensures
     (header_in _ _ [] _ _ c.requires (sym (c.names.ensures []) ∙ c.if-not-names.false))
 
-pub returns-then-not-is_of_kind : goal.returns-then-not-is_of_kind
-returns-then-not-is_of_kind c = λ R.
+pub returns-then-ne : goal.returns-then-ne
+returns-then-ne c = λ R.
     field_tests _ _ _ _ _ (state_of c.args.heap.now R c.args.«record») c.index_of-at.ensures
     (ap not (sym (c.names.ensures R) ∙ c.if-not-names.false))
-    (ap not (sym c.is_of_kind.ensures ∙ c.if-not-is_of_kind.true)) refl
+    (other-kind c.args.kind c.kind_of.ensures (sym c.ne.ensures ∙ c.if-ne.true)) refl
 
 pub returns-then-count_of-field : goal.returns-then-count_of-field
 returns-then-count_of-field c = λ R.
     field_tests _ _ _ _ _ (state_of c.args.heap.now R c.args.«record») c.index_of-at.ensures
     (ap not (sym (c.names.ensures R) ∙ c.if-not-names.false))
-    (ap not (sym c.is_of_kind.ensures ∙ c.if-not-is_of_kind.false))
+    (other-kind c.args.kind c.kind_of.ensures (sym c.ne.ensures ∙ c.if-ne.false))
     (ap (λ (n : ℕ). leb n c.args.field) (sym c.count_of.ensures.is)
     ∙ le-leb c.count_of.result c.args.field (omega arith))
 
@@ -38,5 +38,5 @@ pub returns : goal.returns
 returns c = λ R.
     field_tests _ _ _ _ _ (state_of c.args.heap.now R c.args.«record») c.index_of-at.ensures
     (ap not (sym (c.names.ensures R) ∙ c.if-not-names.false))
-    (ap not (sym c.is_of_kind.ensures ∙ c.if-not-is_of_kind.false))
+    (other-kind c.args.kind c.kind_of.ensures (sym c.ne.ensures ∙ c.if-ne.false))
     (ap (λ (n : ℕ). leb n c.args.field) (sym c.count_of.ensures.is) ∙ lt-leb _ _ c.if-count_of-field.false)

@@ -12,19 +12,16 @@ use Rattle.reader.proofs.ReadCases.{sound_beside, collected_beside, retried_dama
 use Rattle.reader.proofs.Plants.{may_plant}
 use Rattle.reader.proofs.retry.Goals as goal
 
-pub collect_among-done-requires : goal.collect_among-done-requires
-collect_among-done-requires c = rw c.is_sound.ensures.1 (omega arith, sym c.is_sound.ensures.0 ∙ c.if-is_sound.true)
-
 pub spare_of-requires : goal.spare_of-requires
 spare_of-requires c =
     let s : State = state_of c.args.heap.now c.args.roots.now c.args.«record» in
     let e : sound tuple s ≡ true = sym c.is_sound.ensures.0 ∙ c.if-is_sound.true in
-    may_spare _ (left_shaped tuple s e _ (left_is tuple _ _ _ _ c.is_sound.ensures.1 _ _ c.collect_among-done.ensures))
+    may_spare _ (left_shaped tuple s e _ (left_is tuple _ _ _ _ c.is_sound.ensures.1 _ _ c.collect_among.ensures))
 
 pub plant-planted-requires : goal.plant-planted-requires
 plant-planted-requires c =
     let s : State = state_of c.args.heap.now c.args.roots.now c.args.«record» in
-    let d = c.collect_among-done in
+    let d = c.collect_among in
     let e : sound tuple s ≡ true = sym c.is_sound.ensures.0 ∙ c.if-is_sound.true in
     let l : state_of d.new.heap d.new.roots d.result.«record» ≡ collected tuple s =
     left_is tuple _ _ _ _ c.is_sound.ensures.1 _ _ d.ensures in (
@@ -41,18 +38,18 @@ returns-then-words-spare_of c g stands =
     (retried-done tuple _ (with_text c.args.text.now s) _ g stands.filled
     (sound_beside tuple c.args.text.now s ∙ e) _
     (collected_beside tuple c.args.text.now s
-    (left_is tuple _ _ _ _ c.is_sound.ensures.1 _ _ c.collect_among-done.ensures))
+    (left_is tuple _ _ _ _ c.is_sound.ensures.1 _ _ c.collect_among.ensures))
     _ c.spare_of.ensures c.if-words-spare_of.true _ (c.plant-planted.ensures g stands))
 
 pub returns-then-is_sound : goal.returns-then-is_sound
 returns-then-is_sound c g stands =
     let s : State = state_of c.args.heap.now c.args.roots.now c.args.«record» in
     let e : sound tuple s ≡ true = sym c.is_sound.ensures.0 ∙ c.if-is_sound.true in
-    rw c.say-then-is_sound.ensures
+    rw c.refuse.ensures
     (retried-room tuple _ (with_text c.args.text.now s) _ g stands.filled
     (sound_beside tuple c.args.text.now s ∙ e) _
     (collected_beside tuple c.args.text.now s
-    (left_is tuple _ _ _ _ c.is_sound.ensures.1 _ _ c.collect_among-done.ensures))
+    (left_is tuple _ _ _ _ c.is_sound.ensures.1 _ _ c.collect_among.ensures))
     _ c.spare_of.ensures c.if-words-spare_of.false)
 
 pub returns : goal.returns
@@ -60,5 +57,5 @@ returns c g stands =
     let s : State = state_of c.args.heap.now c.args.roots.now c.args.«record» in
     let bad : sound tuple (with_text c.args.text.now s) ≡ false =
     sound_beside tuple c.args.text.now s ∙ sym c.is_sound.ensures.0 ∙ c.if-is_sound.false in
-    rw (c.say-2.ensures, c.is_sound.ensures.1)
+    rw (c.refuse-2.ensures, c.is_sound.ensures.1)
     (retried_damaged tuple _ (with_text c.args.text.now s) _ g stands.filled bad)

@@ -1,13 +1,12 @@
 -- `runs::all_zero` meets its contract. Invariant: the words left are all 0 exactly where all are.
 use mathlib.Core.Path.{◌≡◌}
-use Prim.Native.Nat.{◌+◌}
+use lib.ListN.{length}
 use Rattle.model.specs.Soundness.{all}
 use Rattle.model.specs.Values.{is_null}
-use Rattle.runs.specs.Runs.{run}
 use Rattle.runs.proofs.all_zero.Given as goal
 
-abbrev pub invariant-loop-left : goal.invariant-loop-left
-invariant-loop-left l = (l.at + l.left ≡ l.from + l.n) × (all is_null (run l.heap l.at l.left) ≡ all is_null (run l.heap l.from l.n))
+abbrev pub invariant-loop-first : goal.invariant-loop-first
+invariant-loop-first l = all is_null l.left ≡ all is_null l.words
 
-abbrev pub decreases-loop-left : goal.decreases-loop-left
-decreases-loop-left l = l.left
+abbrev pub decreases-loop-first : goal.decreases-loop-first
+decreases-loop-first l = length l.left

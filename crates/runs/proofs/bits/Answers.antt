@@ -1,12 +1,10 @@
--- `runs::bits` meets its contract. Invariant: no bit yet exactly where each word passed is 0.
-use mathlib.Core.Path.{refl}
-use native.Mathlib.Omega.{arith}
-use Rattle.model.specs.Values.{is_null}
-use Rattle.runs.proofs.RunLaws.{bits-more}
+-- `runs::bits` meets its contract.
+use Rattle.std.proofs.Common.{rules, ◌≡◌, bit_or}
+use Rattle.std.specs.List.{fold}
+use Rattle.runs.proofs.RunLaws.{bits-null}
 use Rattle.runs.proofs.bits.Goals as goal
 
-pub loop-i-preserved : goal.loop-i-preserved
-loop-i-preserved c =
-    let l = c.loop-i in
-    let a = c.args in
-    (omega arith, bits-more is_null a.heap.now a.from l.i l.b _ (omega arith) refl l.invariant.1)
+pub returns : goal.returns
+returns c =
+    let is : c.fold.result ≡ fold bit_or 0 c.args.words.now = search rules in
+    rw is (bits-null c.args.words.now)

@@ -28,7 +28,7 @@ returns-in-Collect c =
 pub returns-in-Check : goal.returns-in-Check
 unfolding step
 returns-in-Check c =
-    rw c.in-Check.is (beside c.args.text.now (state_of c.args.heap.now c.args.roots.now c.args.«record») Ask.Check refl c.check.ensures)
+    rw (c.in-Check.is, c.keep.ensures) (beside c.args.text.now (state_of c.args.heap.now c.args.roots.now c.args.«record») Ask.Check refl c.check.ensures)
 
 pub returns-in-Allocate : goal.returns-in-Allocate
 unfolding step
@@ -39,57 +39,57 @@ pub returns-in-SetInteger : goal.returns-in-SetInteger
 unfolding step
 returns-in-SetInteger c =
     let v = to_z-of_z w64 c.in-SetInteger.value (search rules) in
-    rw c.in-SetInteger.is (beside c.args.text.now (state_of c.args.heap.now c.args.roots.now c.args.«record») (Ask.SetInteger _ _) refl (rw v at c.set_integer.ensures))
+    rw (c.in-SetInteger.is, c.keep-in-SetInteger.ensures) (beside c.args.text.now (state_of c.args.heap.now c.args.roots.now c.args.«record») (Ask.SetInteger _ _) refl (rw v at c.set_integer.ensures))
 
 pub returns-in-SetNull : goal.returns-in-SetNull
 unfolding step
 returns-in-SetNull c =
-    rw c.in-SetNull.is (beside c.args.text.now (state_of c.args.heap.now c.args.roots.now c.args.«record») (Ask.SetNull _) refl c.set_null.ensures)
+    rw (c.in-SetNull.is, c.keep-in-SetNull.ensures) (beside c.args.text.now (state_of c.args.heap.now c.args.roots.now c.args.«record») (Ask.SetNull _) refl c.set_null.ensures)
 
 pub returns-in-SetCode : goal.returns-in-SetCode
 unfolding step
 returns-in-SetCode c =
-    rw c.in-SetCode.is (beside c.args.text.now (state_of c.args.heap.now c.args.roots.now c.args.«record») (Ask.SetCode _ _) refl c.set_code.ensures)
+    rw (c.in-SetCode.is, c.keep-in-SetCode.ensures) (beside c.args.text.now (state_of c.args.heap.now c.args.roots.now c.args.«record») (Ask.SetCode _ _) refl c.set_code.ensures)
 
 pub returns-in-Copy : goal.returns-in-Copy
 unfolding step
 returns-in-Copy c =
-    rw c.in-Copy.is (beside c.args.text.now (state_of c.args.heap.now c.args.roots.now c.args.«record») (Ask.Copy _ _) refl c.copy.ensures)
+    rw (c.in-Copy.is, c.keep-in-Copy.ensures) (beside c.args.text.now (state_of c.args.heap.now c.args.roots.now c.args.«record») (Ask.Copy _ _) refl c.copy.ensures)
 
 pub returns-in-Load : goal.returns-in-Load
 unfolding step
 returns-in-Load c =
-    rw c.in-Load.is (beside c.args.text.now (state_of c.args.heap.now c.args.roots.now c.args.«record») (Ask.Load _ _ _) refl c.load.ensures)
+    rw (c.in-Load.is, c.keep-in-Load.ensures) (beside c.args.text.now (state_of c.args.heap.now c.args.roots.now c.args.«record») (Ask.Load _ _ _) refl c.load.ensures)
 
 pub returns-in-Store : goal.returns-in-Store
 unfolding step
 returns-in-Store c =
-    rw c.in-Store.is (beside c.args.text.now (state_of c.args.heap.now c.args.roots.now c.args.«record») (Ask.Store _ _ _) refl c.store.ensures)
+    rw (c.in-Store.is, c.keep-in-Store.ensures) (beside c.args.text.now (state_of c.args.heap.now c.args.roots.now c.args.«record») (Ask.Store _ _ _) refl c.store.ensures)
 
 pub returns-in-RawRead : goal.returns-in-RawRead
 unfolding step
 returns-in-RawRead c =
-    rw c.in-RawRead.is (beside c.args.text.now (state_of c.args.heap.now c.args.roots.now c.args.«record») (Ask.RawRead _ _) refl c.raw_read.ensures)
+    rw (c.in-RawRead.is, c.keep-in-RawRead.ensures) (beside c.args.text.now (state_of c.args.heap.now c.args.roots.now c.args.«record») (Ask.RawRead _ _) refl c.raw_read.ensures)
 
 pub returns-in-RawWrite : goal.returns-in-RawWrite
 unfolding step
 returns-in-RawWrite c =
-    rw c.in-RawWrite.is (beside c.args.text.now (state_of c.args.heap.now c.args.roots.now c.args.«record») (Ask.RawWrite _ _ _) refl c.raw_write.ensures)
+    rw (c.in-RawWrite.is, c.keep-in-RawWrite.ensures) (beside c.args.text.now (state_of c.args.heap.now c.args.roots.now c.args.«record») (Ask.RawWrite _ _ _) refl c.raw_write.ensures)
 
 pub returns-in-Same : goal.returns-in-Same
 unfolding step
 returns-in-Same c =
-    rw c.in-Same.is (beside c.args.text.now (state_of c.args.heap.now c.args.roots.now c.args.«record») (Ask.Same _ _) refl c.same.ensures)
+    rw (c.in-Same.is, c.keep-in-Same.ensures) (beside c.args.text.now (state_of c.args.heap.now c.args.roots.now c.args.«record») (Ask.Same _ _) refl c.same.ensures)
 
 pub returns-in-Inspect : goal.returns-in-Inspect
 unfolding step
 returns-in-Inspect c =
-    rw c.in-Inspect.is (beside c.args.text.now (state_of c.args.heap.now c.args.roots.now c.args.«record») (Ask.Inspect _) refl c.inspect.ensures)
+    rw (c.in-Inspect.is, c.keep-in-Inspect.ensures) (beside c.args.text.now (state_of c.args.heap.now c.args.roots.now c.args.«record») (Ask.Inspect _) refl c.inspect.ensures)
 
 pub returns-in-Write : goal.returns-in-Write
 unfolding step
 returns-in-Write c =
-    rw c.in-Write.is c.write.ensures
+    rw (c.in-Write.is, c.keep-in-Write.ensures) c.write.ensures
 
 pub returns-in-Read : goal.returns-in-Read
 unfolding step

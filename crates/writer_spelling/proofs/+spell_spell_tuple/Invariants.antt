@@ -1,6 +1,6 @@
 -- A value has so many levels left, and the tuple that it is has its fields' values with one fewer. The loop's invariant: what is left
 -- of the tuple goes from the present place and bytes to where all of it goes from the first.
-use Rattle.std.proofs.Common.{◌-◌, ◌≡◌, ◌+◌, ◌≤◌, length}
+use Rattle.std.proofs.Common.{◌≡◌, ◌+◌, length}
 use Rattle.writer_measuring.proofs.Fields.{rest_pieces}
 use Rattle.writer_spelling.specs.Going.{goes}
 use Rattle.writer_spelling.proofs.+spell_spell_tuple.Given as goal
@@ -13,13 +13,10 @@ decreases-spell_tuple l = l.depth + l.depth + 1
 
 abbrev pub invariant-spell_tuple-loop-field : goal.invariant-spell_tuple-loop-field
 invariant-spell_tuple-loop-field l =
+    let u = l.used in
     let s = l.initial in
     record {
-      counted : l.field ≤ l.count;
       sized : length l.text ≡ length s.text;
-      same : goes (rest_pieces l.first l.free l.heap l.depth l.object l.count l.field) l.place l.text
-          ≡ goes (rest_pieces l.first l.free l.heap l.depth l.object l.count s.field) s.place s.text;
+      same : goes (rest_pieces u.first u.free u.heap.now l.depth l.object l.count l.field) l.place l.text
+          ≡ goes (rest_pieces u.first u.free u.heap.now l.depth l.object l.count 0) s.place s.text;
     }
-
-abbrev pub decreases-spell_tuple-loop-field : goal.decreases-spell_tuple-loop-field
-decreases-spell_tuple-loop-field l = l.count - l.field

@@ -9,12 +9,12 @@ use Rattle.blind.proofs.beginning.fresh.Goals as goal
 pub returns-then-bad_length : goal.returns-then-bad_length
 unfolding Calls.fresh
 returns-then-bad_length c =
-    said _ _ c.say.ensures
+    said _ _ c.refuse.ensures
     (applies _ (sym c.bad_length.ensures ∙ c.if-bad_length.true))
 
 pub returns : goal.returns
 returns c =
-    said _ _ c.say-2.ensures
+    said _ _ c.say.ensures
     (fresh-done (state_of c.args.heap.now c.args.roots.now c.args.«record») _
     (sym c.bad_length.ensures ∙ c.if-bad_length.false)
     c.clear.ensures)

@@ -1,40 +1,30 @@
--- `blind::set_integer` meets its contract, test by test; the range by what `tag` answers.
-use borrow.Author.Tests.{le-leb, lt-leb}
-use mathlib.Core.Path.{sym, ap, ◌∙◌}
+-- `blind::set_integer` meets its contract: refused as `admit` says, or by what `tag` answers.
+use Rattle.std.proofs.Common.{sym, ap, ◌∙◌, not}
+use Rattle.std.specs.Option.{ok_or}
 use mir.ValLaws.{to_z-of_z}
-use mathlib.Core.Bool.{not}
+use Rattle.model.specs.declared.Refusal.TheVariants as Why
 use Rattle.model.specs.Calls.{set_integer}
-use Rattle.theory.proofs.Refusing.{said, applies, passes}
+use Rattle.theory.proofs.Refusing.{applies, passes}
 use Rattle.integers.specs.Tagging.{tagged}
-use Rattle.integers.proofs.TaggedIntegers.{tagged-word, tagged-none}
+use Rattle.integers.proofs.TaggedIntegers.{tagged_in, tagged_out}
+use Rattle.words.proofs.Admitted.{passed_on, not_admitted, admitted_own}
 use Rattle.blind.proofs.integer.set_integer.Goals as goal
 
-pub returns-then-bad_shape : goal.returns-then-bad_shape
+pub returns-in_err-admit : goal.returns-in_err-admit
 unfolding set_integer
-returns-then-bad_shape c =
-    said _ _ c.say.ensures
-    (applies _ (sym c.bad_shape.ensures ∙ c.if-bad_shape.true))
+returns-in_err-admit c = rw (passed_on _ c.from_residual.ensures.1) (not_admitted _ _ c.admit.ensures.is _ c.in_err-admit.was)
 
-pub returns-then-roots-to : goal.returns-then-roots-to
+pub returns-in_err-roots : goal.returns-in_err-roots
 unfolding set_integer
-returns-then-roots-to c =
-    said _ _ c.say-then-roots-to.ensures
-    (passes _ _ (sym c.bad_shape.ensures ∙ c.if-bad_shape.false)
-    (applies _ (le-leb _ _ c.if-roots-to.true)))
+returns-in_err-roots c =
+    let t = tagged_out _ _ (ap (λ x. ok_or x Why.Range) (sym (c.tag.ensures ∙ ap tagged (to_z-of_z _ _ c.ranges.value)))
+    ∙ sym c.ok_or.ensures.value ∙ c.in_err-roots.was) in
+    rw (passed_on _ c.from_residual-in_err-roots.ensures.1, sym t.1)
+    (admitted_own _ _ c.admit.ensures.is c.in_ok-admit.was (applies _ (ap not t.0)))
 
-pub returns-in-Word : goal.returns-in-Word
+pub returns : goal.returns
 unfolding set_integer
-returns-in-Word c =
-    let t = tagged-word _ _ (sym (c.tag-tagged.ensures ∙ ap tagged (to_z-of_z _ _ c.ranges.value)) ∙ c.in-Word.is) in
-    said _ _ c.say-in-Word.ensures
-    (passes _ _ (sym c.bad_shape.ensures ∙ c.if-bad_shape.false)
-    (passes _ _ (lt-leb _ _ c.if-roots-to.false)
-    (passes _ _ (ap not t.0) (rw t.1))))
-
-pub returns-in-OutOfRange : goal.returns-in-OutOfRange
-unfolding set_integer
-returns-in-OutOfRange c =
-    said _ _ c.say-in-OutOfRange.ensures
-    (passes _ _ (sym c.bad_shape.ensures ∙ c.if-bad_shape.false)
-    (passes _ _ (lt-leb _ _ c.if-roots-to.false)
-    (applies _ (ap not (tagged-none _ (sym (c.tag-tagged.ensures ∙ ap tagged (to_z-of_z _ _ c.ranges.value)) ∙ c.in-OutOfRange.is))))))
+returns c =
+    let t = tagged_in _ _ (ap (λ x. ok_or x Why.Range) (sym (c.tag.ensures ∙ ap tagged (to_z-of_z _ _ c.ranges.value)))
+    ∙ sym c.ok_or.ensures.value ∙ c.in_ok-roots.was) in
+    admitted_own _ _ c.admit.ensures.is c.in_ok-admit.was (passes _ _ (ap not t.0) (rw t.1))

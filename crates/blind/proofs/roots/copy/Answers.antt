@@ -1,25 +1,14 @@
--- `blind::copy` meets its contract, test by test; both root numbers are then below the number of roots.
-use mathlib.Core.Path.{refl, sym, ◌∙◌}
+-- `blind::copy` meets its contract: refused as `admit_both` says, or what is its own.
+use Rattle.std.proofs.Common.{refl}
 use Rattle.model.specs.Calls.{copy}
-use Rattle.theory.proofs.Refusing.{said, applies, passes}
+use Rattle.words.proofs.Admitted.{passed_on, not_admitted, admitted_own}
 use Rattle.blind.proofs.roots.copy.Goals as goal
 
-pub returns-then-bad_shape : goal.returns-then-bad_shape
+pub returns-in_err-admit_both : goal.returns-in_err-admit_both
 unfolding copy
-returns-then-bad_shape c =
-    said _ _ c.say.ensures
-    (applies _ (sym c.bad_shape.ensures ∙ c.if-bad_shape.true))
-
-pub returns-then-no_root : goal.returns-then-no_root
-unfolding copy
-returns-then-no_root c =
-    said _ _ c.say-then-no_root.ensures
-    (passes _ _ (sym c.bad_shape.ensures ∙ c.if-bad_shape.false)
-    (applies _ (sym c.no_root.ensures ∙ c.if-no_root.true)))
+returns-in_err-admit_both c =
+    rw (passed_on _ c.from_residual.ensures.1) (not_admitted _ _ c.admit_both.ensures.is _ c.in_err-admit_both.was)
 
 pub returns : goal.returns
 unfolding copy
-returns c =
-    said _ _ c.say-2.ensures
-    (passes _ _ (sym c.bad_shape.ensures ∙ c.if-bad_shape.false)
-    (passes _ _ (sym c.no_root.ensures ∙ c.if-no_root.false) refl))
+returns c = admitted_own _ _ c.admit_both.ensures.is c.in_ok-admit_both.was refl

@@ -1,5 +1,4 @@
 -- `phachunoi::fields::phachunoi_raw_read` meets its contract: its numbers cross to the call and back.
-use mathlib.Core.Path.{refl}
 use Rattle.model.specs.declared.Call.TheVariants as Ask
 use Rattle.model.specs.Sessions.{step}
 use Rattle.crossing.specs.Numbers.{answer_of}
@@ -12,5 +11,5 @@ returns c =
     let called = c.before in
     let crossed = called.before in
     let a = crossed.args in
-    keeps answer_of a.«record» a.heap.now a.roots.now (Ask.RawRead a.object a.field) refl
-    crossed.record_of.ensures called.raw_read-done.ensures c.answer_of.ensures
+    keeps answer_of a.«record» a.heap.now a.roots.now (Ask.RawRead a.object a.field)
+    crossed.record_of.ensures called.raw_read.ensures c.answer_of.ensures

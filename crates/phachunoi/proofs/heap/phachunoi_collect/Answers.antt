@@ -11,11 +11,11 @@ unfolding step
 collected_of-requires c =
     let a = c.args in
     narrow a.«record» a.heap.now a.roots.now Ask.Collect
-    c.record_of.ensures c.collect-done.ensures (omega (arith, c.well_formed))
+    c.record_of.ensures c.collect.ensures (omega (arith, c.well_formed))
 
 pub returns : goal.returns
 unfolding step
 returns c =
     let a = c.args in
     crosses collected_of a.«record» a.heap.now a.roots.now Ask.Collect
-    c.record_of.ensures c.collect-done.ensures c.collected_of.ensures
+    c.record_of.ensures c.collect.ensures c.collected_of.ensures

@@ -7,10 +7,10 @@ pub fresh_result_of-requires : goal.fresh_result_of-requires
 fresh_result_of-requires c =
     let a = c.args in
     fresh_narrow a.heap.now c.record_of.result a.«record»
-    c.record_of.ensures c.fresh-done.ensures (omega (arith, c.well_formed))
+    c.record_of.ensures c.fresh.ensures (omega (arith, c.well_formed))
 
 pub returns : goal.returns
 returns c =
     let a = c.args in
     fresh_crosses a.heap.now c.record_of.result a.«record»
-    c.fresh-done.ensures c.fresh_result_of.ensures
+    c.fresh.ensures c.fresh_result_of.ensures

@@ -6,4 +6,4 @@ pub returns : goal.returns
 returns c =
     let a = c.args in
     seen a.«record» a.heap.now a.roots.now a.root
-    c.record_of.ensures c.tell-seen.ensures c.seen_of.ensures
+    c.record_of.ensures c.tell.ensures c.seen_of.ensures

@@ -11,11 +11,11 @@ unfolding step
 result_of-requires c =
     let a = c.args in
     narrow_text a.«record» a.heap.now a.roots.now a.text.now (Ask.Read a.to)
-    c.record_of.ensures c.read-done.ensures (omega (arith, c.well_formed))
+    c.record_of.ensures c.read.ensures (omega (arith, c.well_formed))
 
 pub returns : goal.returns
 unfolding step
 returns c =
     let a = c.args in
     crosses_text result_of a.«record» a.heap.now a.roots.now a.text.now (Ask.Read a.to)
-    c.record_of.ensures c.read-done.ensures c.result_of.ensures
+    c.record_of.ensures c.read.ensures c.result_of.ensures

@@ -1,5 +1,4 @@
 -- `phachunoi::texts::phachunoi_write` meets its contract: its numbers cross to the call and back.
-use mathlib.Core.Path.{refl}
 use Rattle.model.specs.declared.Call.TheVariants as Ask
 use Rattle.model.specs.Sessions.{step}
 use Rattle.crossing.specs.Numbers.{written_of}
@@ -10,5 +9,5 @@ pub returns : goal.returns
 unfolding step
 returns c =
     let a = c.args in
-    keeps-text written_of a.«record» a.heap.now a.roots.now a.text.now (Ask.Write a.root) refl
-    c.record_of.ensures c.write-done.ensures c.written_of.ensures
+    keeps-text written_of a.«record» a.heap.now a.roots.now a.text.now (Ask.Write a.root)
+    c.record_of.ensures c.write.ensures c.written_of.ensures

@@ -3,7 +3,7 @@ use Rattle.crossing.proofs.Crosses.{window_crosses, place_narrow}
 use Rattle.phachunoi.proofs.window.phachunoi_open.Goals as goal
 
 pub window_of-requires : goal.window_of-requires
-window_of-requires c = place_narrow _ _ c.find-place.ensures
+window_of-requires c = place_narrow _ _ c.find.ensures
 
 pub returns : goal.returns
 returns c =
@@ -11,4 +11,4 @@ returns c =
     let crossed = called.before in
     let a = crossed.args in
     window_crosses a.«record» a.heap.now a.roots.now a.object
-    crossed.record_of.ensures called.find-place.ensures c.window_of.ensures
+    crossed.record_of.ensures called.find.ensures c.window_of.ensures

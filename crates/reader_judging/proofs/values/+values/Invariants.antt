@@ -17,8 +17,8 @@ decreases-value l = 4 * l.depth + 2
 abbrev pub decreases-tuple : goal.decreases-tuple
 decreases-tuple l = 4 * l.depth + 3
 
-abbrev pub invariant-tuple-loop-at : goal.invariant-tuple-loop-at
-invariant-tuple-loop-at l = Fields l.depth l.text l.at l.initial.words l.words l.place l.fields
+abbrev pub invariant-tuple-loop-next : goal.invariant-tuple-loop-next
+invariant-tuple-loop-next l = Fields l.depth l.text l.at l.initial.found.words l.found.words l.place l.fields
 
-abbrev pub decreases-tuple-loop-at : goal.decreases-tuple-loop-at
-decreases-tuple-loop-at l = length l.text - l.place
+abbrev pub decreases-tuple-loop-next : goal.decreases-tuple-loop-next
+decreases-tuple-loop-next l = length l.text - l.place

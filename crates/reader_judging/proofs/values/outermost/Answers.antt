@@ -8,5 +8,5 @@ use Rattle.reader_judging.proofs.values.outermost.Goals as goal
 pub returns : goal.returns
 returns c = let p = c.requires in
     from_none _ _ _ _ p.words
-    (a_tuple 64 c.args.text.now 0 c.args.words.now _ _ p.some (λ e. omega arith)
-    (sym p.begins ∙ c.if-first-ne-OPENER.false) c.tuple.ensures)
+    (a_tuple 64 c.args.text.now 0 p.some (λ e. omega arith)
+    (sym p.begins ∙ c.if-first-ne-OPENER.false) c.args.found.now.words _ _ c.tuple.ensures)

@@ -1,17 +1,20 @@
 -- `reader_placing::counts::count_fields` meets its contract. The loop's invariant: the open counts, the counts that are stored and
 -- the place of the first of these are the tally of the bytes that were passed.
+use Prim.Native.Nat.{◌-◌}
 use native.Mathlib.Omega.{arith}
 use mathlib.Core.Path.{refl, sym, ◌∙◌}
+use lib.ListN.{get_or}
+use Rattle.reader_numerals.proofs.Steps.{ascii_digit}
 use Rattle.reader_placing.proofs.Stacks.{at-end, digit-passed, other-passed, grows, opens, closes, all-passed}
 use Rattle.reader_placing.proofs.counts.count_fields.Goals as goal
 
 pub loop-place-init : goal.loop-place-init
 loop-place-init c = λ g a. at-end _ _ _ _ refl
 
-pub loop-place-preserved-then-is_digit : goal.loop-place-preserved-then-is_digit
-loop-place-preserved-then-is_digit c = λ g a.
+pub loop-place-preserved-then-is_ascii_digit : goal.loop-place-preserved-then-is_ascii_digit
+loop-place-preserved-then-is_ascii_digit c = λ g a.
     digit-passed _ _ _ _ _ _ _ _ (c.loop-place.invariant g a) (omega (arith, c.loop-place-test.true))
-    (sym c.is_digit.ensures ∙ c.if-is_digit.true)
+    (sym (ascii_digit (get_or c.args.text.now (c.loop-place.place - 1) 0)) ∙ sym c.is_ascii_digit.ensures.value ∙ c.if-is_ascii_digit.true)
 
 pub overflow_sub-open : goal.overflow_sub-open
 overflow_sub-open c =

@@ -7,6 +7,3 @@ use Rattle.reader_placing.proofs.counts.count_fields.Given as goal
 
 abbrev pub invariant-loop-place : goal.invariant-loop-place
 invariant-loop-place l = (g : Forest) → Countable l.initial.heap l.text l.end g → Counting l.initial.heap l.text l.end l.heap l.«open» l.top l.slot l.place
-
-abbrev pub decreases-loop-place : goal.decreases-loop-place
-decreases-loop-place l = l.place

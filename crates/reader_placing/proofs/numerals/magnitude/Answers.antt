@@ -2,6 +2,7 @@
 -- make the number whose digits stand at the first place.
 use native.Mathlib.Omega.{arith}
 use mathlib.Core.Path.{sym, ◌∙◌}
+use Rattle.reader_numerals.proofs.Steps.{ascii_digit}
 use Rattle.reader_placing.proofs.Digits.{begins, inside, turn, stop}
 use Rattle.reader_placing.proofs.numerals.magnitude.Goals as goal
 
@@ -16,7 +17,7 @@ overflow_mul-number c =
     let n = c.requires.0 in
     let d = c.requires.1 in
     let a = turn _ _ n c.loop-number.number c.loop-number.place c.loop-number.byte (c.loop-number.invariant n d)
-    (sym c.is_digit.ensures ∙ c.loop-number-test.true) in
+    (sym (ascii_digit c.loop-number.byte) ∙ sym c.is_ascii_digit.ensures.value ∙ c.loop-number-test.true) in
     omega (arith, a.fits, (c.loop-number.invariant n d).small)
 
 pub overflow_add-number : goal.overflow_add-number
@@ -24,14 +25,14 @@ overflow_add-number c =
     let n = c.requires.0 in
     let d = c.requires.1 in
     let a = turn _ _ n c.loop-number.number c.loop-number.place c.loop-number.byte (c.loop-number.invariant n d)
-    (sym c.is_digit.ensures ∙ c.loop-number-test.true) in
+    (sym (ascii_digit c.loop-number.byte) ∙ sym c.is_ascii_digit.ensures.value ∙ c.loop-number-test.true) in
     omega (arith, a.fits, (c.loop-number.invariant n d).small)
 
 pub loop-number-preserved : goal.loop-number-preserved
 loop-number-preserved c = λ n d.
     (turn _ _ n c.loop-number.number c.loop-number.place c.loop-number.byte (c.loop-number.invariant n d)
-    (sym c.is_digit.ensures ∙ c.loop-number-test.true)).again
+    (sym (ascii_digit c.loop-number.byte) ∙ sym c.is_ascii_digit.ensures.value ∙ c.loop-number-test.true)).again
 
 pub returns : goal.returns
 returns c = λ n d.
-    let l = c.loop-number in stop _ _ n l.number l.place l.byte (l.invariant n d) (sym c.is_digit.ensures ∙ c.loop-number-test.false)
+    let l = c.loop-number in stop _ _ n l.number l.place l.byte (l.invariant n d) (sym (ascii_digit c.loop-number.byte) ∙ sym c.is_ascii_digit.ensures.value ∙ c.loop-number-test.false)

@@ -13,8 +13,8 @@ tuple-overflow_add-result t c = omega (arith, two_bytes _ _ _ _ _ _ _ c.requires
 pub tuple-returns-then-count-eq0 : goal.tuple-returns-then-count-eq0
 tuple-returns-then-count-eq0 t c = λ g a. no_field-laid _ _ _ _ _ _ g a _ c.header.ensures c.if-count-eq0.true
 
-pub tuple-overflow_add-place : goal.tuple-overflow_add-place
-tuple-overflow_add-place t c =
+pub tuple-overflow_add-reached : goal.tuple-overflow_add-reached
+tuple-overflow_add-reached t c =
     omega (arith, lead_inside _ _ _ _ _ _ _ c.requires.1 _ c.opener_width.result c.header.ensures c.opener_width.ensures c.if-count-eq0.false)
 
 pub tuple-value-reached-requires : goal.tuple-value-reached-requires
@@ -28,8 +28,8 @@ tuple-value-reached-requires t c =
     let n = turn _ _ _ _ _ _ _ _ _ _ _ _ _ _ going (omega (arith, c.loop-field-test.true, told)) in
     (omega arith, (n.value, n.value_at))
 
-pub tuple-overflow_add-place-in-loop-field : goal.tuple-overflow_add-place-in-loop-field
-tuple-overflow_add-place-in-loop-field t c =
+pub tuple-overflow_add-reached-in-loop-field : goal.tuple-overflow_add-reached-in-loop-field
+tuple-overflow_add-reached-in-loop-field t c =
     let g = c.requires.0 in
     let a = c.requires.1 in
     let told = (told-count _ _ _ _ _ _ g a).is in
@@ -52,8 +52,8 @@ tuple-returns t c = λ g a.
     (ap (λ (m : ℕ). c.args.free + 1 + m) (sym told)) in
     ends _ _ _ _ _ _ g a _ _ c.header.ensures c.opener_width.ensures c.if-count-eq0.false _ _ _ _ _ going c.loop-field-test.false
 
-pub value-bounds-text-at : goal.value-bounds-text-at
-value-bounds-text-at t c = value_inside _ _ _ _ _ _ _ _ c.requires.1
+pub value-bounds-text-from : goal.value-bounds-text-from
+value-bounds-text-from t c = value_inside _ _ _ _ _ _ _ _ c.requires.1
 
 pub value-overflow_sub-depth : goal.value-overflow_sub-depth
 value-overflow_sub-depth t c =

@@ -1,7 +1,7 @@
 -- `reader_placing::values::value` and `reader_placing::values::tuple` meet their contracts. A value has so many levels left, and the
 -- tuple that it is has its values with one fewer. The loop's invariant: whatever values the text had where the loop began, what is
 -- left of them, laid from here on, leaves what all of them laid from there on leave.
-use Prim.Native.Nat.{ℕ, ◌+◌, ◌-◌}
+use Prim.Native.Nat.{ℕ, ◌+◌}
 use mathlib.Core.Path.{◌≡◌}
 use Rattle.model.specs.Trees.{Forest}
 use Rattle.model.specs.Trees as Trees
@@ -17,8 +17,6 @@ decreases-tuple l = l.depth + l.depth + 1
 abbrev pub invariant-tuple-loop-field : goal.invariant-tuple-loop-field
 invariant-tuple-loop-field l =
     let o = l.initial in
-    (c : ℕ) (g : Forest) → FieldsAt o.heap l.text c o.field o.place o.next o.told l.depth g → o.field + Trees.count g ≡ l.end
-    → Going l.text c l.depth g o.heap o.field o.place o.next o.told l.heap l.field l.place l.next l.told
-
-abbrev pub decreases-tuple-loop-field : goal.decreases-tuple-loop-field
-decreases-tuple-loop-field l = l.end - l.field
+    let first : ℕ = l.free + 1 in
+    (c : ℕ) (g : Forest) → FieldsAt o.heap l.text c first o.reached.at o.reached.free o.reached.slot l.depth g → first + Trees.count g ≡ l.end
+    → Going l.text c l.depth g o.heap first o.reached.at o.reached.free o.reached.slot l.heap l.field l.reached.at l.reached.free l.reached.slot

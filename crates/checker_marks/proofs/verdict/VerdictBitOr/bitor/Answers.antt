@@ -1,0 +1,12 @@
+-- `|` of two verdicts meets its contract: the lowest bit of either.
+use mathlib.Core.Path.{ap, ◌∙◌}
+use mathlib.Core.Bool.{Bool, ◌||◌}
+use Rattle.model.specs.Values.{is_odd}
+use Rattle.checker_marks.proofs.Parity.{or-odd}
+use Rattle.checker_marks.proofs.verdict.VerdictBitOr.bitor.Goals as goal
+
+pub returns : goal.returns
+returns c =
+    or-odd c.self.inside.bits c.other.inside.bits
+    ∙ ap (λ (b : Bool). b || is_odd c.other.inside.bits) c.self.view_is
+    ∙ ap (λ (b : Bool). c.args.self || b) c.other.view_is
