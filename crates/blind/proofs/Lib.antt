@@ -1,1 +1,2 @@
 pub mod FreshHeap
+pub mod Asked

@@ -23,7 +23,7 @@ pub struct Objects<'a> {
 
 // Where a walk stopped; the verdict on the fields that it passed; and whether headers changed often on the
 // way, which only chooses the way from there on.
-#[derive(Drop)]
+#[derive(Clone, Copy)]
 pub struct Walk {
     pub at: usize,
     pub verdict: Verdict,
@@ -35,13 +35,14 @@ const PAIR: u32 = 4;
 
 impl Objects<'_> {
     ghost use Rattle.checker_fields.specs.Walks.{AreTiled, Passes, fields_are_values, are_values};
+    ghost use Rattle.checker_marks.specs.Verdicts.{holds};
 
     // Pairs one behind the other, up to `end`: lists and trees are made of them, and a loop of their own
     // judges them faster than the next one (DECISIONS, pairs).
     fn judge_pairs(self, from: usize, end: usize) -> Walk
         requires { AreTiled self from × (from < end) × (end ≤ self.marks.free)
             × (at self.words.now from ≡ 4) }
-        ensures { Passes self.entry from result.at result.verdict }
+        ensures { Passes self.entry from result.at (holds result.verdict) }
     {
         let mut at = from;
         let mut verdict = Verdict::yes();
@@ -70,7 +71,7 @@ impl Objects<'_> {
         requires { AreTiled self from × (from < end) × (end ≤ self.marks.free)
             × (at self.words.now from ≡ header) × (is_traced (tuple.kind_of header) ≡ true)
             × (tuple.count_of header ≤ 4) }
-        ensures { Passes self.entry from result.at result.verdict }
+        ensures { Passes self.entry from result.at (holds result.verdict) }
     {
         let n = Tuple::count_of(header);
         let mut at = from;
@@ -97,7 +98,7 @@ impl Objects<'_> {
     // A run of small traced objects with one header, or a single object.
     fn judge_run(self, from: usize, end: usize) -> Walk
         requires { AreTiled self from × (from < end) × (end ≤ self.marks.free) }
-        ensures { Passes self.entry from result.at result.verdict }
+        ensures { Passes self.entry from result.at (holds result.verdict) }
     {
         let header = self.words[from];
         let n = Tuple::count_of(header);
@@ -126,7 +127,7 @@ impl Objects<'_> {
     // The objects that begin before `end`, by runs.
     fn judge_by_runs(self, from: usize, end: usize) -> Walk
         requires { AreTiled self from × (from < end) × (end ≤ self.marks.free) }
-        ensures { Passes self.entry from result.at result.verdict }
+        ensures { Passes self.entry from result.at (holds result.verdict) }
     {
         let mut at = from;
         let mut verdict = Verdict::yes();
@@ -147,7 +148,7 @@ impl Objects<'_> {
     // One object. Where sizes change often, no jump waits for that of a small one.
     fn judge_object(self, from: usize) -> Verdict
         requires { AreTiled self from × (from < self.marks.free) }
-        ensures { result ≡ fields_are_values self.entry from }
+        ensures { holds result ≡ fields_are_values self.entry from }
     {
         let header = self.words[from];
         let n = Tuple::count_of(header);
@@ -165,7 +166,7 @@ impl Objects<'_> {
     // The objects that begin before `end`, one by one.
     fn judge_each(self, from: usize, end: usize) -> Walk
         requires { AreTiled self from × (from < end) × (end ≤ self.marks.free) }
-        ensures { Passes self.entry from result.at result.verdict }
+        ensures { Passes self.entry from result.at (holds result.verdict) }
     {
         let mut at = from;
         let mut verdict = Verdict::yes();
@@ -182,7 +183,7 @@ impl Objects<'_> {
 
     fn judge_stretch(self, from: usize, mixed: bool) -> Walk
         requires { AreTiled self from × (from < self.marks.free) }
-        ensures { Passes self.entry from result.at result.verdict }
+        ensures { Passes self.entry from result.at (holds result.verdict) }
     {
         let free = self.marks.free;
         if mixed {

@@ -19,13 +19,14 @@ const BELOW_FLOOR: u32 = CODE_FLOOR - 1;
 
 impl Marks<'_> {
     ghost use Rattle.checker_marks.specs.Asked.{is_value};
+    ghost use Rattle.checker_marks.specs.Verdicts.{holds};
 
     // The verdict on a word: whether it is odd, 0, a code word, or the address of a marked word. No jump is
     // in it. A word that is a value by its size alone is taken for the odd one below the floor. Turned right
     // by two bits, a multiple of 4 is an index and any other even word is past all of them; what is no index
     // below the free one is looked up there, where no mark is. Null has the mark of word 0.
     pub fn judge(self, word: u32) -> Verdict
-        ensures { result ≡ is_value self.entry word }
+        ensures { holds result ≡ is_value self.entry word }
     {
         let capped = if word < BELOW_FLOOR {
             word

@@ -1,39 +1,42 @@
 // A verdict on words: whether all of them are values.
-ghost use Rattle.std.specs.Prelude.{◌≡◌, Bool, true, ◌&&◌, ◌||◌};
+ghost use Rattle.std.specs.Prelude.{◌≡◌, ℕ, true, ◌&&◌, ◌||◌};
 ghost use Rattle.model.specs.Values.{is_odd};
+ghost use Rattle.checker_marks.specs.Verdicts.{holds};
 
 use std::marker::Model;
 use std::ops::{BitAnd, BitOr};
 
 // A number that is odd for yes, so that no jump waits for a word. As a bool it would be cut to one bit after
 // each object: in C that takes up to 4 % more instructions for objects of three fields.
-#[derive(Drop)]
+#[derive(Clone, Copy)]
 pub struct Verdict {
     bits: u32,
 }
 
 impl Model for Verdict {
-    ghost Value = { Bool };
+    ghost Value = { ℕ };
 
-    ghost view = { λ v. is_odd v.bits };
+    ghost view = { λ v. v.bits };
+
+    ghost inverse = { λ n. record { bits = n } };
 }
 
 impl Verdict {
     pub fn yes() -> Verdict
-        ensures { result ≡ true }
+        ensures { holds result ≡ true }
     {
         Verdict { bits: 1 }
     }
 
     // Yes if the lowest of the bits is set.
     pub fn of_lowest(bits: u32) -> Verdict
-        ensures { result ≡ is_odd bits }
+        ensures { holds result ≡ is_odd bits }
     {
         Verdict { bits }
     }
 
     pub fn holds(&self) -> bool
-        ensures { result ≡ self.now }
+        ensures { result ≡ holds self.now }
     {
         self.bits % 2 == 1
     }
@@ -42,7 +45,7 @@ impl Verdict {
 impl BitAnd for Verdict {
     type Output = Verdict;
 
-    ghost bitand_gives = { λ a b c. c ≡ (a && b) };
+    ghost bitand_gives = { λ a b c. holds c ≡ (holds a && holds b) };
 
     fn bitand(self, other: Verdict) -> Verdict {
         Verdict {
@@ -54,7 +57,7 @@ impl BitAnd for Verdict {
 impl BitOr for Verdict {
     type Output = Verdict;
 
-    ghost bitor_gives = { λ a b c. c ≡ (a || b) };
+    ghost bitor_gives = { λ a b c. holds c ≡ (holds a || holds b) };
 
     fn bitor(self, other: Verdict) -> Verdict {
         Verdict {

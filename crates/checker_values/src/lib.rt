@@ -6,13 +6,14 @@ ghost use Rattle.std.specs.Prelude.{◌≡◌, ◌≤◌, if◌then◌else◌, e
 ghost use Rattle.model.specs.Soundness.{all};
 ghost use Rattle.model.specs.Values.{is_odd};
 ghost use Rattle.checker_marks.specs.Asked.{is_value};
+ghost use Rattle.checker_marks.specs.Verdicts.{holds};
 ghost use Rattle.checker_values.specs.Plain.{is_plain};
 
 use checker_marks::{Marks, Verdict};
 
 fn judge_four(row: &[u32], marks: Marks) -> Verdict
     requires { length row.now ≡ 4 }
-    ensures { result ≡ all (is_value marks.entry) row.now }
+    ensures { holds result ≡ all (is_value marks.entry) row.now }
 {
     let one = marks.judge(row[0]);
     let two = marks.judge(row[1]);
@@ -24,7 +25,7 @@ fn judge_four(row: &[u32], marks: Marks) -> Verdict
 // Four words at most.
 pub fn judge_few(row: &[u32], marks: Marks) -> Verdict
     requires { length row.now ≤ 4 }
-    ensures { result ≡ all (is_value marks.entry) row.now }
+    ensures { holds result ≡ all (is_value marks.entry) row.now }
 {
     let n = row.len();
     if n == 0 {
@@ -48,7 +49,7 @@ pub fn judge_few(row: &[u32], marks: Marks) -> Verdict
 // The first n of four words. Those past n are let through, so that no jump waits for n.
 fn judge_masked(words: &[u32], n: usize, marks: Marks) -> Verdict
     requires { (4 ≤ length words.now) × (n ≤ 4) }
-    ensures { result ≡ all (is_value marks.entry) (take n words.now) }
+    ensures { holds result ≡ all (is_value marks.entry) (take n words.now) }
 {
     let past = 15 << n as u32;
     let one = marks.judge(words[0]) | Verdict::of_lowest(past);
@@ -61,7 +62,7 @@ fn judge_masked(words: &[u32], n: usize, marks: Marks) -> Verdict
 // The first n words, four at most: the first of four, where there are four.
 pub fn judge_small(words: &[u32], n: usize, marks: Marks) -> Verdict
     requires { (n ≤ length words.now) × (n ≤ 4) }
-    ensures { result ≡ all (is_value marks.entry) (take n words.now) }
+    ensures { holds result ≡ all (is_value marks.entry) (take n words.now) }
 {
     if 4 <= words.len() {
         return judge_masked(words, n, marks);
@@ -71,7 +72,7 @@ pub fn judge_small(words: &[u32], n: usize, marks: Marks) -> Verdict
 
 // Four at a time, and what is left over one by one.
 fn judge_fours(row: &[u32], marks: Marks) -> Verdict
-    ensures { result ≡ all (is_value marks.entry) row.now }
+    ensures { holds result ≡ all (is_value marks.entry) row.now }
 {
     let mut verdict = Verdict::yes();
     let mut left = row;
@@ -100,7 +101,7 @@ fn even_bits(row: &[u32]) -> u32
 
 // More than eight words: 64 of them that are all odd or 0 need no look at the marks.
 fn judge_many(row: &[u32], marks: Marks) -> Verdict
-    ensures { result ≡ all (is_value marks.entry) row.now }
+    ensures { holds result ≡ all (is_value marks.entry) row.now }
 {
     let mut verdict = Verdict::yes();
     let mut left = row;
@@ -115,7 +116,7 @@ fn judge_many(row: &[u32], marks: Marks) -> Verdict
 
 // Any number of words. Five to eight are the first four and the last four.
 pub fn judge_words(row: &[u32], marks: Marks) -> Verdict
-    ensures { result ≡ all (is_value marks.entry) row.now }
+    ensures { holds result ≡ all (is_value marks.entry) row.now }
 {
     let n = row.len();
     if n <= 4 {

@@ -7,9 +7,10 @@ use mathlib.Core.Bool.{true, false, cond, ◌&&◌}
 use mathlib.Core.List.{List, [], ◌∷◌, map}
 use lib.Dec.{eqb}
 use lib.ListN.{length, replicate}
-use Rattle.std.specs.Prelude.{Ok}
+use Rattle.std.specs.Prelude.{Ok, Result}
 use Rattle.model.specs.declared.Half.TheVariants.{A}
 use Rattle.model.specs.declared.Call.TheVariants as Ask
+use Rattle.model.specs.declared.Refusal.{Refusal}
 use Rattle.model.specs.declared.Refusal.TheVariants as Why
 use Rattle.model.specs.declared.Answer.{Answer}
 use Rattle.model.specs.declared.Answer.TheVariants as Says
@@ -151,25 +152,29 @@ inspect_passes = (
 )
 
 -- inspect says something else of a code word
-abbrev says_of_code : Answer → Machine
-says_of_code a = changed (λ c s o. cond (is inspects c && eqb (told o.answer).holds 4) (says a s) o)
+abbrev says_of_code : Result Answer Refusal → Machine
+says_of_code a = changed (λ c s o. cond (is inspects c && eqb (told o.answer).holds 4) (record { answer = a; left = s }) o)
 
-says_of_code_lem : (a : Answer) → (a ≡ Says.Code code_floor → ⊥) → E.Effects tuple (says_of_code a) → ⊥
+says_of_code_lem : (a : Result Answer Refusal) → (a ≡ Ok (Says.Code code_floor) → ⊥) → E.Effects tuple (says_of_code a) → ⊥
 unfolding step refuse Calls.inspect bad_shape_of
-says_of_code_lem a n e = n (same-answer a (Says.Code code_floor) (e.inspect_code 0 (holding code_floor) inspect_passes refl (omega arith)))
+says_of_code_lem a n e = n (e.inspect_code 0 (holding code_floor) inspect_passes refl (omega arith))
 
 -- null; or a code word, and not which
 abbrev pub says_null : Machine
-says_null = says_of_code Says.Null
+says_null = says_of_code (Ok Says.Null)
 
 pub says_null_breaks_inspect_code : E.Effects tuple says_null → ⊥
-says_null_breaks_inspect_code = says_of_code_lem Says.Null (λ e. let z : ◌≡◌ {A = ℕ} 0 1 = cc in omega arith)
+says_null_breaks_inspect_code = says_of_code_lem (Ok Says.Null) (λ e.
+    let f = same-answer Says.Null (Says.Code code_floor) e in
+    let z : ◌≡◌ {A = ℕ} 0 1 = cc in omega arith)
 
 abbrev pub says_not_which : Machine
-says_not_which = says_of_code (Says.Code 0)
+says_not_which = says_of_code (Ok (Says.Code 0))
 
 pub says_not_which_breaks_inspect_code : E.Effects tuple says_not_which → ⊥
-says_not_which_breaks_inspect_code = says_of_code_lem (Says.Code 0) (λ e. let z : 0 ≡ code_floor = cc in omega arith)
+says_not_which_breaks_inspect_code = says_of_code_lem (Ok (Says.Code 0)) (λ e.
+    let f = same-answer (Says.Code 0) (Says.Code code_floor) e in
+    let z : 0 ≡ code_floor = cc in omega arith)
 
 -- ---- layouts
 

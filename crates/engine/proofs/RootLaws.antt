@@ -2,8 +2,8 @@
 use Prim.Native.Nat.{ℕ, suc, ◌+◌, ◌-◌, ◌<◌}
 use native.Mathlib.Numerals.{add-one}
 use native.Mathlib.Omega.{arith}
-use mathlib.Core.Path.{◌≡◌, refl, sym, ap, subst}
-use mathlib.Core.List.{List, ◌∷◌, ◌++◌, append-nil}
+use mathlib.Core.Path.{◌≡◌, refl, sym, ap, ◌∙◌, subst}
+use mathlib.Core.List.{List, [], ◌∷◌, ◌++◌, append-nil}
 use lib.ListN.{length, get_or, set, take, drop}
 use lib.Seq.{take-suc-set, drop-set-lt, drop-cons, append_snoc, drop-length, take-length}
 use Rattle.model.specs.Headers.{Layout}
@@ -72,13 +72,17 @@ module _ (Y : Layout) where
 
   -- ---- roots, scan and clearing, in a row
 
-  module _ (h rs : List ℕ) (old used new : ℕ) (h₁ rs₁ : List ℕ) (f₁ : ℕ) (t₁ : Tally)
-      (e : emptied h₁ rs₁ f₁ t₁ ≡ rooted Y h rs new none_met) where
+  -- the first k roots are visited, which are all
+  module _ (h rs : List ℕ) (old used new : ℕ) (h₁ rs₁ : List ℕ) (f₁ : ℕ) (t₁ : Tally) (k : ℕ) (all : length rs ≡ k)
+      (e : emptied h₁ rs₁ f₁ t₁ ≡ rooted Y h (take k rs) new none_met) where
     pub evacuated-is : (h₂ : List ℕ) (f₂ : ℕ) (t₂ : Tally) (h₃ : List ℕ)
         → swept h₂ f₂ t₂ ≡ ended (run Y (length h₁ - new) h₁ (between new f₁ t₁))
         → h₃ ≡ cleared h₂ old used
-        → emptied h₃ rs₁ f₂ t₂ ≡ evacuated Y h rs old used new
+        → emptied h₃ (rs₁ ++ drop k rs) f₂ t₂ ≡ evacuated Y h rs old used new
     unfolding evacuated scanned
     evacuated-is h₂ f₂ t₂ h₃ a b =
-        rw (b, ← e)
+        let none : drop k rs ≡ [] = ap (λ (n : ℕ). drop n rs) (sym all) ∙ drop-length rs in
+        let whole : take k rs ≡ rs = ap (λ (n : ℕ). take n rs) (sym all) ∙ take-length rs in
+        let visited = e ∙ ap (λ (l : List ℕ). rooted Y h l new none_met) whole in
+        rw (none, append-nil, b, ← visited)
         (ap (λ (x : Sweep). emptied (cleared x.heap old used) rs₁ x.free x.tally) a)

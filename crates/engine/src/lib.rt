@@ -48,7 +48,9 @@ fn evacuate(heap: &mut [u32], roots: &mut [u32], old: Index, used: usize, new: I
     ensures { emptied heap.new roots.new result.free.0 result.tally
         ≡ evacuated tuple heap.old roots.old old.0 used new.0 }
 {
-    let visited = visit_roots(heap, roots, new);
+    // Counted, so that a call which leaves roots out is refused for that alone.
+    let count = roots.len();
+    let visited = visit_roots(heap, &mut roots[..count], new);
     let passed = engine_scanning::pass_objects(heap, new, visited);
     runs::clear(heap, old.0, used);
     passed

@@ -1,6 +1,14 @@
 -- `writer::write` meets its contract: refused as `admit` says, or what was measured and what was spelled is the call's outcome.
 use native.Mathlib.Omega.{arith}
-use mathlib.Core.Path.{sym, ◌∙◌}
+use Prim.Native.Nat.{ℕ}
+use mathlib.Core.Path.{◌≡◌, sym, ap, ◌∙◌}
+use Rattle.std.specs.Prelude.{Result}
+use Rattle.model.specs.declared.Refusal.{Refusal}
+use mathlib.Core.List.{List}
+use Rattle.model.specs.Texts.{max_depth, value_pieces}
+use Rattle.writer_measuring.specs.Forms.{form_in}
+use Rattle.model.specs.Changes.{root_word}
+use Rattle.writer_measuring.specs.Measured.{measured}
 use Rattle.model.specs.Words.{state_of, with_text}
 use Rattle.theory.proofs.Shape.{shaped}
 use Rattle.words.specs.Admits.{admits}
@@ -9,6 +17,12 @@ use Rattle.words.proofs.FirstWords.{first_by_length}
 use Rattle.naming.proofs.NamedObjects.{free_in_heap}
 use Rattle.writer.proofs.Writing.{write_unadmitted, write-refused, write_arrives, write-spelt}
 use Rattle.writer.proofs.write.Goals as goal
+
+-- the word that was measured is the root's, as numbers
+asked : {x : Result ℕ Refusal} {q : ℕ} (first last n : ℕ) (H : List ℕ) (w : ℕ)
+    → x ≡ measured n (value_pieces (form_in first last H) max_depth q) → q ≡ w
+    → x ≡ measured n (value_pieces (form_in first last H) max_depth w)
+asked f l n H w e same = e ∙ ap (λ (q : ℕ). measured n (value_pieces (form_in f l H) max_depth q)) same
 
 pub returns-in_err-admit : goal.returns-in_err-admit
 unfolding admits
@@ -42,7 +56,7 @@ returns-in_err-measure_root c =
     rw (passed_on _ c.from_residual-in_err-measure_root.ensures.1)
     (write-refused _ s t.0 t.1 _
     (first_by_length _ c.args.«record».half c.first_of.ensures c.half_words.ensures)
-    _ (sym c.in_err-measure_root.was ∙ c.measure_root.ensures))
+    _ (sym c.in_err-measure_root.was ∙ asked _ _ _ _ (root_word s c.args.root) c.measure_root.ensures (omega arith)))
 
 pub spell_root-requires : goal.spell_root-requires
 spell_root-requires c =
@@ -50,7 +64,7 @@ spell_root-requires c =
     let t = admitted_tests _ _ c.admit.ensures.is c.in_ok-admit.was in
     write_arrives _ s t.0 t.1 _
     (first_by_length _ c.args.«record».half c.first_of.ensures c.half_words.ensures)
-    _ (sym c.in_ok-measure_root.was ∙ c.measure_root.ensures)
+    _ (sym c.in_ok-measure_root.was ∙ asked _ _ _ _ (root_word s c.args.root) c.measure_root.ensures (omega arith))
 
 pub returns : goal.returns
 returns c =

@@ -1,17 +1,11 @@
 -- `blind::set_code` meets its contract: refused as `admit` says of the root that the call names, or by the word.
-use Rattle.std.specs.Prelude.{Result, ⊤}
-use Rattle.std.proofs.Common.{◌≡◌, ℕ, refl, sym, ap, ◌∙◌, not, arith, [], ◌∷◌}
-use Rattle.model.specs.declared.Refusal.{Refusal}
-use Rattle.model.specs.Words.{State, state_of}
+use Rattle.std.proofs.Common.{refl, sym, ap, ◌∙◌, not, arith, [], ◌∷◌}
+use Rattle.model.specs.Words.{state_of}
 use Rattle.model.specs.Calls.{set_code}
 use Rattle.theory.proofs.Refusing.{applies, passes}
-use Rattle.words.specs.Admits.{admits}
 use Rattle.words.proofs.Admitted.{passed_on, not_admitted, admitted_own}
+use Rattle.blind.proofs.Asked.{asked}
 use Rattle.blind.proofs.code.set_code.Goals as goal
-
--- the root that was asked for is the one that is named, as numbers
-asked : {x : Result ⊤ Refusal} {q : ℕ} (r : ℕ) (s : State) → x ≡ admits (q ∷ []) s → q ≡ r → x ≡ admits (r ∷ []) s
-asked r s e f = e ∙ ap (λ (q : ℕ). admits (q ∷ []) s) f
 
 pub returns-in_err-admit : goal.returns-in_err-admit
 unfolding set_code

@@ -1,11 +1,12 @@
 -- `checker_fields::Objects::judge_by_runs` meets its contract. Invariant: a walk from the first index on, and no more runs
 -- than words before the index.
 use Prim.Native.Nat.{◌-◌, ◌≤◌}
+use Rattle.checker_marks.specs.Verdicts.{holds}
 use Rattle.checker_fields.proofs.Turns.{Walks}
 use Rattle.checker_fields.proofs.Objects.judge_by_runs.Given as goal
 
 abbrev pub invariant-loop-at : goal.invariant-loop-at
-invariant-loop-at l = Walks l.self l.from l.at l.verdict × (l.runs ≤ l.at)
+invariant-loop-at l = Walks l.self l.from l.at (holds l.verdict) × (l.runs ≤ l.at)
 
 abbrev pub decreases-loop-at : goal.decreases-loop-at
 decreases-loop-at l = l.end - l.at

@@ -13,6 +13,7 @@ use Rattle.model.specs.Soundness.{all}
 use Rattle.model.specs.Words as words
 use Rattle.runs.specs.Runs.{run}
 use Rattle.checker_marks.specs.Asked.{is_value}
+use Rattle.checker_marks.specs.Verdicts.{holds}
 use Rattle.checker_fields.proofs.Turns.{ToJudge, fields_at, within_at, passes_at}
 use Rattle.checker_fields.proofs.Objects.judge_pairs.Goals as goal
 
@@ -58,10 +59,10 @@ loop-at-preserved c =
     let there = fields o.words.now l.at met in
     let count = ap tuple.count_of met ∙ pair-count in
     let fits = within_at o l.at l.invariant.tiled (omega arith) 2 there in
-    let judged = c.judge-one.result && c.judge-two.result in
+    let judged = holds c.judge-one.result && holds c.judge-two.result in
     let words = two_words (is_value o.marks) o.words.now (l.at + 1) (l.at + 2) (omega arith) (omega arith) in
     let are : judged ≡ all (is_value o.marks) (run o.words.now (l.at + 1) 2) =
     rw (c.judge-one.ensures, c.judge-two.ensures) (sym words) in
     rw (c.bitand-verdict.ensures, c.bitand.ensures)
-    (passes_at o c.args.from l.at l.verdict l.invariant c.requires.0 (omega arith) judged (fields_at o l.at 2 2 there refl judged are)
+    (passes_at o c.args.from l.at (holds l.verdict) l.invariant c.requires.0 (omega arith) judged (fields_at o l.at 2 2 there refl judged are)
     (l.at + 3) (omega arith))
