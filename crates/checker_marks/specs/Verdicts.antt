@@ -1,7 +1,8 @@
--- What a verdict says, of the number that it is.
-use Rattle.std.specs.Prelude.{ℕ, Bool}
+-- What a verdict says.
+use Rattle.std.specs.Prelude.{Bool}
 use Rattle.model.specs.Values.{is_odd}
+use Rattle.checker_marks.specs.declared.verdict.Verdict.{Verdict}
 
 -- yes: all words that it is on are values
-abbrev pub holds : ℕ → Bool
-holds v = is_odd v
+abbrev pub holds : Verdict → Bool
+holds v = is_odd v.bits

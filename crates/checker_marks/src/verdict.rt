@@ -1,9 +1,8 @@
 // A verdict on words: whether all of them are values.
-ghost use Rattle.std.specs.Prelude.{◌≡◌, ℕ, true, ◌&&◌, ◌||◌};
+ghost use Rattle.std.specs.Prelude.{◌≡◌, true, ◌&&◌, ◌||◌};
 ghost use Rattle.model.specs.Values.{is_odd};
 ghost use Rattle.checker_marks.specs.Verdicts.{holds};
 
-use std::marker::Model;
 use std::ops::{BitAnd, BitOr};
 
 // A number that is odd for yes, so that no jump waits for a word. As a bool it would be cut to one bit after
@@ -11,14 +10,6 @@ use std::ops::{BitAnd, BitOr};
 #[derive(Clone, Copy)]
 pub struct Verdict {
     bits: u32,
-}
-
-impl Model for Verdict {
-    ghost Value = { ℕ };
-
-    ghost view = { λ v. v.bits };
-
-    ghost inverse = { λ n. record { bits = n } };
 }
 
 impl Verdict {

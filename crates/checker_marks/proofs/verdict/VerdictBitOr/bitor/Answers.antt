@@ -1,13 +1,6 @@
 -- `|` of two verdicts meets its contract: the lowest bit of either.
-use Prim.Native.Nat.{ℕ}
-use mathlib.Core.Path.{ap, ◌∙◌}
-use mathlib.Core.Bool.{◌||◌}
-use Rattle.model.specs.Values.{is_odd}
 use Rattle.checker_marks.proofs.Parity.{or-odd}
 use Rattle.checker_marks.proofs.verdict.VerdictBitOr.bitor.Goals as goal
 
 pub returns : goal.returns
-returns c =
-    or-odd c.self.inside.bits c.other.inside.bits
-    ∙ ap (λ (n : ℕ). is_odd n || is_odd c.other.inside.bits) c.self.view_is
-    ∙ ap (λ (n : ℕ). is_odd c.args.self || is_odd n) c.other.view_is
+returns c = or-odd c.args.self.bits c.args.other.bits
